@@ -1,0 +1,4 @@
+pub mod Masks
+pub mod Positions
+pub mod Settings
+pub mod Lines
