@@ -155,3 +155,11 @@ flip-changes m i v d = record {
     else : (k : ℕ) → (k ≡ suc i → ⊥) → maskValue (bitXor m (2 ^ i)) k ≡ maskValue m k
     else zero ne = refl
     else (suc j) ne = flip-else m i j (λ e. ne (ap suc e))
+
+-- What a changed mask has at the position changed, and at those before it.
+module _ (m p k m' : ℕ) (v : Bool) (c : Changed m p v m') (at : p ≡ suc k) where
+  pub changed-here : k < 32 → bit m' k ≡ v
+  changed-here h = sym (value-inside m' p k at) ∙ c .here (omega arith) (omega arith)
+
+  pub changed-before : (i : ℕ) → i < k → bit m' i ≡ bit m i
+  changed-before i h = c .elsewhere (suc i) (λ e. omega arith)

@@ -1,0 +1,146 @@
+use mathlib.Core.Path.{_≡_, refl, sym, ap, subst, _∙_}
+use mathlib.Core.Bool.{Bool, true, false, not, Bool·beq}
+use mathlib.Core.List.{List}
+use Prim.Native.Nat.{ℕ, suc, _+_, _-_, _<_, _≤_}
+use native.Mathlib.Numerals.{add-one}
+use native.Mathlib.Omega.{arith}
+use lib.ListN.{length, getD, drop}
+use Rattle.std.proofs.shelf.Lists.{getD-read}
+use Rattle.prefix.specs.Bits.{bit, bits, maskValue}
+use Rattle.prefix.specs.Kinds.{isReport}
+use Rattle.prefix.specs.Prefixes.{kinds}
+use Rattle.prefix.specs.declared.kind.Kind.{Kind}
+use Rattle.prefix.specs.declared.prefix.Prefix.{Prefix}
+use Rattle.prefix.proofs.Masks.{value-inside, changed-here, changed-before}
+use Rattle.prefix.proofs.Positions.{length-kinds}
+use Rattle.worth.specs.Scales.{joined}
+use Rattle.worth.specs.Worth.{worth}
+use Rattle.worth.proofs.Branches.{answer-lost, answer-won}
+use Rattle.worth.proofs.Turns.{second, fewer-known, fewer-down, fewer-up, fewer-over}
+use Rattle.worth.proofs.Holding.{holds-start, holds-known, holds-down, holds-up, holds-cut, holds-over, holds-end}
+use Rattle.worth.proofs.walk.walk_from.Needs as need
+
+-- Which branch a line is in, from what the code asks at position d.
+branch : (ks : List Kind) (line d k : ℕ) (value report : Bool) (b : Bool) → d ≡ suc k → value ≡ maskValue line d → report ≡ isReport ks d → Bool·beq value report ≡ b → second ks line k ≡ b
+branch ks line d k value report b e v r t =
+    ap (λ (x : Bool). Bool·beq x (isReport ks (suc k))) (sym (v ∙ value-inside line d k e)) ∙ ap (λ (y : Bool). Bool·beq value y) (sym (r ∙ ap (isReport ks) e)) ∙ t
+
+pub loop-known-holds : need.loop-known-holds
+loop-known-holds g c =
+    let p = c .prefix-prefix .result in
+    let within : c .args .start ≤ p .length = subst (λ (q : Prefix). c .args .start ≤ q .length) (sym (c .prefix-prefix .ensures)) (c .pre .within) in
+    holds-start _ _ _ _ _ _ _ _ (omega (arith, length-kinds (p .length) (p .reports))) refl
+
+pub loop-known-less-then-broken : need.loop-known-less-then-broken
+loop-known-less-then-broken g c = fewer-known _ _ _ _ (c .if-not-known .taken)
+
+pub loop-known-again-then-broken : need.loop-known-again-then-broken
+loop-known-again-then-broken g c =
+    let told = c .if-broken .ensures tt in
+    holds-known _ _ _ _ _ _ _ _ _ _ (c .loop-known .inv) (c .lost-worth-worth-then-broken .result) (c .if-not-known .taken)
+    (c .lost-worth-worth-then-broken .ensures
+        ∙ answer-lost (g .S·Scale .joins) _ _ (c .prefix-prefix .result) _ (c .prefix-prefix .ensures) (told .sound) (c .loop-known .length) (c .loop-known .line .mask) (c .loop-known .inv .within) (g .S·Scale·met .lawful) (told .answer))
+
+pub loop-known-less-then-length-n : need.loop-known-less-then-length-n
+loop-known-less-then-length-n g c = fewer-known _ _ _ _ (c .if-not-known .taken)
+
+pub loop-known-again-then-length-n : need.loop-known-again-then-length-n
+loop-known-again-then-length-n g c =
+    let told = c .if-broken .ensures tt in
+    holds-known _ _ _ _ _ _ _ _ _ _ (c .loop-known .inv) (c .won-worth-worth .result) (c .if-not-known .taken)
+    (c .won-worth-worth .ensures
+        ∙ answer-won (g .S·Scale .joins) _ _ (c .prefix-prefix .result) _ (c .prefix-prefix .ensures) (told .sound) (c .loop-known .length) (c .loop-known .line .mask) (c .loop-known .inv .within) (told .answer)
+            (c .if-length-n .taken ∙ c .len-n .ensures .value))
+
+pub loop-known-less-then-not-known : need.loop-known-less-then-not-known
+loop-known-less-then-not-known g c =
+    let p = c .prefix-prefix .result in
+    let d = c .loop-known .length in
+    let line = c .loop-known .line .mask in
+    let to = c .with-line .result .mask in
+    let next = add-one d in
+    let inside : d < length (kinds p) = omega (arith, c .loop-known .inv .within, length-kinds (p .length) (p .reports), c .len-n .ensures .value) in
+    fewer-down (kinds p) d line to _ (c .if-not-known .taken) inside
+    (changed-here line (d + 1) d to _ (c .with-line .ensures) next (omega (arith, length-kinds (p .length) (p .reports))) ∙ ap not (c .is-report .ensures ∙ ap (isReport (kinds p)) next))
+    (changed-before line (d + 1) d to _ (c .with-line .ensures) next)
+
+pub loop-known-again-then-not-known : need.loop-known-again-then-not-known
+loop-known-again-then-not-known g c =
+    let p = c .prefix-prefix .result in
+    let d = c .loop-known .length in
+    let line = c .loop-known .line .mask in
+    let to = c .with-line .result .mask in
+    let next = add-one d in
+    let inside : d < length (kinds p) = omega (arith, c .loop-known .inv .within, length-kinds (p .length) (p .reports), c .len-n .ensures .value) in
+    holds-down _ _ _ _ _ _ _ _ _ _ (c .loop-known .inv) to (c .if-not-known .taken) inside
+    (changed-here line (d + 1) d to _ (c .with-line .ensures) next (omega (arith, length-kinds (p .length) (p .reports))) ∙ ap not (c .is-report .ensures ∙ ap (isReport (kinds p)) next))
+    (changed-before line (d + 1) d to _ (c .with-line .ensures) next)
+
+pub loop-known-less-then-value-report : need.loop-known-less-then-value-report
+loop-known-less-then-value-report g c =
+    let d = c .loop-known .length in
+    let e : d ≡ suc (d - 1) = omega arith in
+    fewer-up _ d (d - 1) _ _ (c .if-not-known .left) e true (branch _ _ d (d - 1) _ _ true e (c .value .ensures) (c .is-report-report .ensures) (c .if-value-report .taken))
+
+pub loop-known-again-then-value-report : need.loop-known-again-then-value-report
+loop-known-again-then-value-report g c =
+    let p = c .prefix-prefix .result in
+    let d = c .loop-known .length in
+    let j = g .S·Scale .joins in
+    let e : d ≡ suc (d - 1) = omega arith in
+    let room : p .length ≤ length (c .args .cells .now) = subst (λ (q : Prefix). q .length ≤ length (c .args .cells .now)) (sym (c .prefix-prefix .ensures)) (c .pre .cells) in
+    let cell = getD-read (c .loop-known .cells) (d - 1) (c .index-cells-last .result)
+        (omega (arith, c .loop-known .inv .within, length-kinds (p .length) (p .reports), c .loop-known .kept .cells)) (c .index-cells-last .is) (j .lost) in
+    holds-up _ _ _ _ _ _ _ _ _ _ (c .loop-known .inv) (d - 1) e (c .if-length-start .left) (c .index-cells-last .result) (c .join-worth .result) (c .if-not-known .left)
+    (branch _ _ d (d - 1) _ _ true e (c .value .ensures) (c .is-report-report .ensures) (c .if-value-report .taken)) (sym cell)
+    (c .join-worth .ensures ∙ ap (λ (q : Bool). joined j q (c .index-cells-last .result) (c .loop-known .worth)) (c .is-report-report .ensures ∙ ap (isReport (kinds p)) e))
+
+pub loop-known-less-then-is-settled : need.loop-known-less-then-is-settled
+loop-known-less-then-is-settled g c =
+    let d = c .loop-known .length in
+    let e : d ≡ suc (d - 1) = omega arith in
+    fewer-up _ d (d - 1) _ _ (c .if-not-known .left) e false (branch _ _ d (d - 1) _ _ false e (c .value .ensures) (c .is-report-report .ensures) (c .if-value-report .left))
+
+pub loop-known-again-then-is-settled : need.loop-known-again-then-is-settled
+loop-known-again-then-is-settled g c =
+    let p = c .prefix-prefix .result in
+    let d = c .loop-known .length in
+    let j = g .S·Scale .joins in
+    let e : d ≡ suc (d - 1) = omega arith in
+    let report = c .is-report-report .ensures ∙ ap (isReport (kinds p)) e in
+    holds-cut _ _ _ _ _ _ _ _ _ _ (c .loop-known .inv) (d - 1) e (c .if-length-start .left) (c .if-not-known .left)
+    (branch _ _ d (d - 1) _ _ false e (c .value .ensures) (c .is-report-report .ensures) (c .if-value-report .left))
+    (λ y. ap (λ (q : Bool). joined j q (c .loop-known .worth) y) (sym report) ∙ c .is-settled .ensures (c .if-is-settled .taken) y)
+
+pub loop-known-less : need.loop-known-less
+loop-known-less g c =
+    let p = c .prefix-prefix .result in
+    let d = c .loop-known .length in
+    let line = c .loop-known .line .mask in
+    let to = c .with-line-in-loop-known .result .mask in
+    let e : d ≡ suc (d - 1) = omega arith in
+    let few : d - 1 < 32 = omega (arith, c .loop-known .inv .within, length-kinds (p .length) (p .reports)) in
+    fewer-over (kinds p) d (d - 1) line to _ (c .if-not-known .left) e
+    (branch _ _ d (d - 1) _ _ false e (c .value .ensures) (c .is-report-report .ensures) (c .if-value-report .left))
+    (changed-here line d (d - 1) to _ (c .with-line-in-loop-known .ensures) e few ∙ c .is-report-report .ensures ∙ ap (isReport (kinds p)) e)
+    (changed-before line d (d - 1) to _ (c .with-line-in-loop-known .ensures) e)
+
+pub loop-known-again : need.loop-known-again
+loop-known-again g c =
+    let p = c .prefix-prefix .result in
+    let d = c .loop-known .length in
+    let line = c .loop-known .line .mask in
+    let to = c .with-line-in-loop-known .result .mask in
+    let e : d ≡ suc (d - 1) = omega arith in
+    let few : d - 1 < 32 = omega (arith, c .loop-known .inv .within, length-kinds (p .length) (p .reports)) in
+    let room : p .length ≤ length (c .args .cells .now) = subst (λ (q : Prefix). q .length ≤ length (c .args .cells .now)) (sym (c .prefix-prefix .ensures)) (c .pre .cells) in
+    holds-over _ _ _ _ _ _ _ _ _ _ (c .loop-known .inv) (d - 1) e (c .if-length-start .left) to (c .if-not-known .left)
+    (omega (arith, c .loop-known .inv .within, length-kinds (p .length) (p .reports), c .loop-known .kept .cells))
+    (branch _ _ d (d - 1) _ _ false e (c .value .ensures) (c .is-report-report .ensures) (c .if-value-report .left))
+    (changed-here line d (d - 1) to _ (c .with-line-in-loop-known .ensures) e few ∙ c .is-report-report .ensures ∙ ap (isReport (kinds p)) e)
+    (changed-before line d (d - 1) to _ (c .with-line-in-loop-known .ensures) e)
+
+pub returns : need.returns
+returns g c =
+    holds-end _ _ _ _ _ _ _ _ _ _ (c .loop-known .inv) (c .if-not-known .left) (c .if-length-start .taken)
+    ∙ ap (λ (q : Prefix). worth (g .S·Scale .joins) (g .F·Sheet .kept (c .args .sheet .now)) (drop (c .args .start) (kinds q)) (bits (c .args .start) (c .args .from .mask))) (c .prefix-prefix .ensures)

@@ -1,0 +1,15 @@
+-- The count scale: sums and products, each cut down to 1,000,000.
+use Prim.Native.Nat.{ℕ, _+_, _*_, min}
+use native.Mathlib.Nat.{min-le-right}
+use Rattle.worth.specs.Scales.{Joins}
+use Rattle.worth.specs.declared.policy_count.PolicyCount.{PolicyCount}
+
+abbrev pub capped : ℕ → PolicyCount
+capped n = record { value = min n 1000000; ok = min-le-right n 1000000 }
+
+abbrev pub count : Joins PolicyCount
+count = record {
+    won = capped 1;
+    lost = capped 0;
+    either = λ a b. capped (a .value + b .value);
+    both = λ a b. capped (a .value * b .value) }

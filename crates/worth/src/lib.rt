@@ -1,0 +1,18 @@
+// What a part line is worth to the box, on any scale: whether some policy wins
+// from there, how many do. One walk serves every scale and every kind of sheet.
+pub mod count;
+pub mod fault;
+pub mod policy_count;
+pub mod scale;
+pub mod stack;
+pub mod walk;
+pub mod winning;
+pub mod yes_no;
+
+pub use count::Count;
+pub use fault::WorthFault;
+pub use policy_count::PolicyCount;
+pub use scale::Scale;
+pub use stack::WorthStack;
+pub use winning::can_win;
+pub use yes_no::YesNo;

@@ -1,0 +1,25 @@
+// Whether some policy wins, asked of the walk on the yes-no scale.
+ghost use mathlib.Core.Path.{_≡_};
+ghost use Prim.Native.Nat.{min};
+ghost use lib.ListN.{drop};
+ghost use denote.Ref.{name};
+ghost use Rattle.prefix.specs.Bits.{bits};
+ghost use Rattle.prefix.specs.Prefixes.{kinds};
+ghost use Rattle.prefix.specs.Policies.{Winnable};
+ghost use Rattle.worth.specs.Winning.{YesMeansWinnable, Told};
+use crate::fault::WorthFault;
+use crate::stack::WorthStack;
+use crate::yes_no::YesNo;
+use crate::yes_no::YesNoScale;
+use prefix::Line;
+use sheet::Sheet;
+
+// Whether some policy wins from the part line of the first `length` values of a
+// line; at length 0, whether the sheet has a winning policy.
+pub fn can_win<'a, F: Sheet>(stack: &mut WorthStack<'a, bool>, sheet: &F, length: usize, line: Line) -> Result<bool, WorthFault>
+    ensures told { λ r. ⌜ Told (Winnable (F·Sheet .kept (now (sheet .entry))) (drop length (kinds (F·Sheet .prefix (now (sheet .entry))))) (bits (min length (F·Sheet .prefix (now (sheet .entry)) .length)) (line .mask))) (F·Sheet .prefix (now (sheet .entry)) .length) (now (now (stack .entry) .cells)) (now (now (stack .exit) .cells)) r ⌝ }
+    ensures worths { λ _. ⌜ YesMeansWinnable ⌝ }
+    ensures name { λ _. ⌜ name (now (stack .exit) .cells) ≡ name (now (stack .entry) .cells) ⌝ }
+{
+    stack.worth_from::<YesNo, F>(sheet, length, line)
+}
