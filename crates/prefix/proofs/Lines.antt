@@ -56,11 +56,15 @@ only-line (Report ∷ ks) p (x ∷ s) (y ∷ w) h =
     let l = h .whole in
     let same : y ≡ x = cc (h .reports) in
     let rest : reportValues ks w ≡ s = cc (h .reports) in
-    let more = only-line ks (afterReport x p) s w (record { whole = omega arith; reports = rest;
-        replies = λ i r. h .replies (suc i) r ∙ ap (λ (z : Bool). p (suc (suc i)) (z ∷ reportValues ks (take i w))) same }) in
+    let more = only-line ks (afterReport x p) s w (record {
+      whole = omega arith;
+      reports = rest;
+      replies = λ i r. h .replies (suc i) r ∙ ap (λ (z : Bool). p (suc (suc i)) (z ∷ reportValues ks (take i w))) same;
+    }) in
     ap (λ (z : Bool). z ∷ w) same ∙ ap (λ t. x ∷ t) more
 
 pub one-line : (ks : List Kind) → OneLine ks
 one-line ks = record {
-    plays = λ p s e. record { whole = length-line ks p s e; reports = reports-line ks p s e; replies = replies-line ks p s e };
-    only = only-line ks }
+  plays = λ p s e. record { whole = length-line ks p s e; reports = reports-line ks p s e; replies = replies-line ks p s e };
+  only = only-line ks;
+}

@@ -149,8 +149,9 @@ not-is false false h = absurd (true≢false h)
 -- Turning the one value that differs.
 pub flip-changes : (m i : ℕ) (v : Bool) → Bool·beq (bit m i) v ≡ false → Changed m (suc i) v (bitXor m (2 ^ i))
 flip-changes m i v d = record {
-    here = λ _ _. flip-here m i ∙ not-is (bit m i) v d;
-    elsewhere = else }
+  here = λ _ _. flip-here m i ∙ not-is (bit m i) v d;
+  elsewhere = else;
+}
   where
     else : (k : ℕ) → (k ≡ suc i → ⊥) → maskValue (bitXor m (2 ^ i)) k ≡ maskValue m k
     else zero ne = refl

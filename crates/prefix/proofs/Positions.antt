@@ -112,10 +112,10 @@ count-before n m (suc i) few h =
     let e : suc i - 1 ≡ i = omega arith in
     ap (λ (x : ℕ). ones (m % 2 ^ min x 32)) e
     ∙ ⊎-elim (λ (l : i < 32). let q : min i 32 ≡ i = omega arith in ap (λ (x : ℕ). ones (m % 2 ^ x)) q ∙ sym (count-front i n m h))
-        (λ (l : 32 ≤ i).
-            let q : min i 32 ≡ 32 = omega arith in
-            let up : 2 ^ n ≤ 2 ^ 32 = pow-mono (let w : n ≤ 32 = omega arith in w) in
-            let fits : m < 2 ^ 32 = omega arith in
-            ap (λ (x : ℕ). ones (m % 2 ^ x)) q ∙ ap ones (mod-eq-of-lt fits) ∙ sym (count-whole n m h)
-            ∙ ap reportCount (sym (take-all i (kindsOf n m) (omega (arith, length-kinds n m)))))
-        (cases-lt i 32)
+    (λ (l : 32 ≤ i).
+    let q : min i 32 ≡ 32 = omega arith in
+    let up : 2 ^ n ≤ 2 ^ 32 = pow-mono (let w : n ≤ 32 = omega arith in w) in
+    let fits : m < 2 ^ 32 = omega arith in
+    ap (λ (x : ℕ). ones (m % 2 ^ x)) q ∙ ap ones (mod-eq-of-lt fits) ∙ sym (count-whole n m h)
+    ∙ ap reportCount (sym (take-all i (kindsOf n m) (omega (arith, length-kinds n m)))))
+    (cases-lt i 32)

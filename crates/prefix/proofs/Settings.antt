@@ -37,12 +37,13 @@ number-each zero s h = ([], refl, omega arith)
 number-each (suc r) s h =
     ⊎-elim (λ (l : s < 2 ^ r). let i = number-each r s l in (false ∷ i .0, ap suc (i .1), omega (arith, i .2)))
     (λ (l : 2 ^ r ≤ s).
-        let i = number-each r (s - 2 ^ r) (omega (arith, pow-suc 2 r)) in
-        (true ∷ i .0, ap suc (i .1), omega (arith, i .2, ap (λ (z : ℕ). 2 ^ z) (i .1))))
+    let i = number-each r (s - 2 ^ r) (omega (arith, pow-suc 2 r)) in
+    (true ∷ i .0, ap suc (i .1), omega (arith, i .2, ap (λ (z : ℕ). 2 ^ z) (i .1))))
     (cases-lt s (2 ^ r))
 
 pub numbering : (r : ℕ) → Numbering r
 numbering r = record {
-    below = λ v e. subst (λ (n : ℕ). number v < 2 ^ n) e (number-below v);
-    apart = λ v w e f h. number-apart v w (e ∙ sym f) h;
-    each = number-each r }
+  below = λ v e. subst (λ (n : ℕ). number v < 2 ^ n) e (number-below v);
+  apart = λ v w e f h. number-apart v w (e ∙ sym f) h;
+  each = number-each r;
+}

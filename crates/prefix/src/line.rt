@@ -30,7 +30,7 @@ impl Line {
         if position == 0 || position > 32 {
             return false;
         }
-        self.mask >> (position - 1) & 1 == 1
+        (self.mask >> (position - 1)) & 1 == 1
     }
 
     // The same line with one value as given; the line itself where there is no
@@ -41,7 +41,9 @@ impl Line {
         if position == 0 || position > 32 || self.value(position) == value {
             return self;
         }
-        Line { mask: self.mask ^ 1 << (position - 1) }
+        Line {
+            mask: self.mask ^ 1 << (position - 1),
+        }
     }
 }
 

@@ -63,7 +63,7 @@ module _ {W : Type 0} (j : Joins W) (kept : List Bool → Bool) (ks : List Kind)
       let front : bits k a ≡ bits k b = bits-same k a b (λ i l. s i (omega arith)) in
       let to : Bool → W → List Bool → W = λ x y z. cond (Bool·beq x q) (joined j q y v) (joined j q v (deep j kept ks (suc k) (z ++ q ∷ []))) in
       let t : step j kept ks a k xs v ≡ step j kept ks b k ys v =
-          ap (λ (x : Bool). to x (getD xs k (j .lost)) (bits k a)) e ∙ ap (λ (y : W). to (bit b k) y (bits k a)) f ∙ ap (λ (z : List Bool). to (bit b k) (getD ys k (j .lost)) z) front in
+      ap (λ (x : Bool). to x (getD xs k (j .lost)) (bits k a)) e ∙ ap (λ (y : W). to (bit b k) y (bits k a)) f ∙ ap (λ (z : List Bool). to (bit b k) (getD ys k (j .lost)) z) front in
       ap (λ (z : W). cond (ltb k start) v z)
       (climb-same k a b xs ys (step j kept ks a k xs v) (λ i l. s i (omega arith)) (λ i l. c i (omega arith)) ∙ ap (climb k b ys) t)
 
@@ -76,12 +76,12 @@ module _ {W : Type 0} (j : Joins W) (kept : List Bool → Bool) (ks : List Kind)
       let whole : bits (suc d) to ≡ bits d line ++ not q ∷ [] = bits-push d to ∙ ap (λ t. t ++ bit to d ∷ []) front ∙ ap (λ (x : Bool). bits d line ++ x ∷ []) e in
       let D : List Bool → W = deep j kept ks (suc d) in
       let one : climb (suc d) to xs (D (bits (suc d) to)) ≡ climb d to xs (joined j q (D (bits (suc d) to)) (D (bits d to ++ q ∷ []))) =
-          climb-first d to xs (D (bits (suc d) to)) st (ap (λ (x : Bool). Bool·beq x q) e ∙ second-not q) in
+      climb-first d to xs (D (bits (suc d) to)) st (ap (λ (x : Bool). Bool·beq x q) e ∙ second-not q) in
       let two : joined j q (D (bits (suc d) to)) (D (bits d to ++ q ∷ [])) ≡ deep j kept ks d (bits d line) =
-          ap (λ z. joined j q (D z) (D (bits d to ++ q ∷ []))) whole ∙ ap (λ z. joined j q (D (bits d line ++ not q ∷ [])) (D (z ++ q ∷ []))) front
-          ∙ sym (worth-joins j kept ks d (bits d line) h) in
+      ap (λ z. joined j q (D z) (D (bits d to ++ q ∷ []))) whole ∙ ap (λ z. joined j q (D (bits d line ++ not q ∷ [])) (D (z ++ q ∷ []))) front
+      ∙ sym (worth-joins j kept ks d (bits d line) h) in
       let three : climb d to xs (deep j kept ks d (bits d line)) ≡ climb d line xs (deep j kept ks d (bits d line)) =
-          climb-same d to line xs xs (deep j kept ks d (bits d line)) s (λ i l. refl) in
+      climb-same d to line xs xs (deep j kept ks d (bits d line)) s (λ i l. refl) in
       rw add-one (one ∙ ap (climb d to xs) two ∙ three)
 
   -- Up from the second branch.
@@ -95,7 +95,7 @@ module _ {W : Type 0} (j : Joins W) (kept : List Bool → Bool) (ks : List Kind)
       → climb k line xs v ≡ climb d line xs v
   climb-cut d k line xs v e st b q =
       sym (ap (λ (z : ℕ). climb z line xs v) e ∙ climb-first k line xs v st b
-          ∙ ap (climb k line xs) (q (deep j kept ks (suc k) (bits k line ++ isReport ks (suc k) ∷ []))))
+      ∙ ap (climb k line xs) (q (deep j kept ks (suc k) (bits k line ++ isReport ks (suc k) ∷ []))))
 
   -- Over from the first branch into the second.
   pub climb-over : (d k line to : ℕ) (xs : List W) (v : W) → d ≡ suc k → start ≤ k → k < length xs → second ks line k ≡ false → bit to k ≡ isReport ks (suc k) → SameTo k to line
@@ -107,10 +107,10 @@ module _ {W : Type 0} (j : Joins W) (kept : List Bool → Bool) (ks : List Kind)
       let D : List Bool → W = deep j kept ks (suc k) in
       let ys : List W = set xs k v in
       let one : climb (suc k) to ys (D (bits (suc k) to)) ≡ climb k to ys (joined j q (getD ys k (j .lost)) (D (bits (suc k) to))) =
-          climb-second k to ys (D (bits (suc k) to)) st (ap (λ (x : Bool). Bool·beq x q) t ∙ second-same q) in
+      climb-second k to ys (D (bits (suc k) to)) st (ap (λ (x : Bool). Bool·beq x q) t ∙ second-same q) in
       let two : joined j q (getD ys k (j .lost)) (D (bits (suc k) to)) ≡ joined j q v (D (bits k line ++ q ∷ [])) =
-          ap (λ z. joined j q z (D (bits (suc k) to))) (getD-set-same xs k v (j .lost) h) ∙ ap (λ z. joined j q v (D z)) whole in
+      ap (λ z. joined j q z (D (bits (suc k) to))) (getD-set-same xs k v (j .lost) h) ∙ ap (λ z. joined j q v (D z)) whole in
       let three : climb k to ys (joined j q v (D (bits k line ++ q ∷ []))) ≡ climb k line xs (joined j q v (D (bits k line ++ q ∷ []))) =
-          climb-same k to line ys xs (joined j q v (D (bits k line ++ q ∷ []))) s (λ i l. let ne : i ≢ k = omega arith in getD-set-other xs k i v (j .lost) ne) in
+      climb-same k to line ys xs (joined j q v (D (bits k line ++ q ∷ []))) s (λ i l. let ne : i ≢ k = omega arith in getD-set-other xs k i v (j .lost) ne) in
       let four : climb (suc k) to ys (D (bits (suc k) to)) ≡ climb (suc k) line xs v = one ∙ ap (climb k to ys) two ∙ three ∙ sym (climb-first k line xs v st b) in
       subst (λ (d : ℕ). climb d to ys (deep j kept ks d (bits d to)) ≡ climb d line xs v) (sym e) four

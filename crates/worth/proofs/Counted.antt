@@ -15,10 +15,11 @@ same-count a b e =
 
 pub count-lawful : Lawful count
 count-lawful = record {
-    lost-either = λ a. same-count (capped (0 + a .value)) a (let h = a .ok in omega arith);
-    either-lost = λ a. same-count (capped (a .value + 0)) a (let h = a .ok in omega arith);
-    lost-both = λ a. same-count (capped (0 * a .value)) (capped 0) (omega (arith, zero-mul (a .value)));
-    both-lost = λ a. same-count (capped (a .value * 0)) (capped 0) (omega (arith, mul-zero (a .value))) }
+  lost-either = λ a. same-count (capped (0 + a .value)) a (let h = a .ok in omega arith);
+  either-lost = λ a. same-count (capped (a .value + 0)) a (let h = a .ok in omega arith);
+  lost-both = λ a. same-count (capped (0 * a .value)) (capped 0) (omega (arith, zero-mul (a .value)));
+  both-lost = λ a. same-count (capped (a .value * 0)) (capped 0) (omega (arith, mul-zero (a .value)));
+}
 
 -- At the limit nothing is added.
 pub count-full : (a : PolicyCount) → a .value ≡ 1000000 → (b : PolicyCount) → count .either a b ≡ a

@@ -22,9 +22,10 @@ pub record Holds {W : Type 0} (j : Joins W) (kept : List Bool → Bool) (ks : Li
 module _ {W : Type 0} (j : Joins W) (kept : List Bool → Bool) (ks : List Kind) (start : ℕ) (w : W) where
   pub holds-start : (line : ℕ) (xs : List W) (v : W) → start ≤ length ks → deep j kept ks start (bits start line) ≡ w → Holds j kept ks start w start line xs v false
   holds-start line xs v h e = record {
-      within = h;
-      since = omega arith;
-      comes = climb-base j kept ks start start line xs (deep j kept ks start (bits start line)) (omega arith) ∙ e }
+    within = h;
+    since = omega arith;
+    comes = climb-base j kept ks start start line xs (deep j kept ks start (bits start line)) (omega arith) ∙ e;
+  }
 
   module _ (d line : ℕ) (xs : List W) (v : W) (known : Bool) (h : Holds j kept ks start w d line xs v known) where
     at : (b : Bool) → known ≡ b → Holds j kept ks start w d line xs v b
@@ -33,18 +34,20 @@ module _ {W : Type 0} (j : Joins W) (kept : List Bool → Bool) (ks : List Kind)
     -- The worth is found.
     pub holds-known : (x : W) → known ≡ false → x ≡ deep j kept ks d (bits d line) → Holds j kept ks start w d line xs x true
     holds-known x e k = record {
-        within = h .within;
-        since = h .since;
-        comes = ap (climb j kept ks start d line xs) k ∙ at false e .comes }
+      within = h .within;
+      since = h .since;
+      comes = ap (climb j kept ks start d line xs) k ∙ at false e .comes;
+    }
 
     pub holds-down : (to : ℕ) → known ≡ false → d < length ks → bit to d ≡ not (isReport ks (suc d)) → SameTo d to line → Holds j kept ks start w (d + 1) to xs v known
     holds-down to e lt t s =
         let since = h .since in
         subst (λ (b : Bool). Holds j kept ks start w (d + 1) to xs v b) (sym e)
         (record {
-            within = omega arith;
-            since = omega arith;
-            comes = climb-down j kept ks start d line to xs (h .since) lt t s ∙ at false e .comes })
+          within = omega arith;
+          since = omega arith;
+          comes = climb-down j kept ks start d line to xs (h .since) lt t s ∙ at false e .comes;
+        })
 
     above : (k : ℕ) → d ≡ suc k → (d ≡ start → ⊥) → start ≤ k
     above k m ne = let since = h .since in let o : d ≢ start = ne in omega arith
@@ -65,9 +68,10 @@ module _ {W : Type 0} (j : Joins W) (kept : List Bool → Bool) (ks : List Kind)
 
       pub holds-over : (to : ℕ) → known ≡ true → k < length xs → second ks line k ≡ false → bit to k ≡ isReport ks (suc k) → SameTo k to line → Holds j kept ks start w d to (set xs k v) v false
       holds-over to e lt b t s = record {
-          within = h .within;
-          since = h .since;
-          comes = climb-over j kept ks start d k line to xs v m (above k m ne) lt b t s ∙ at true e .comes }
+        within = h .within;
+        since = h .since;
+        comes = climb-over j kept ks start d k line to xs v m (above k m ne) lt b t s ∙ at true e .comes;
+      }
 
     pub holds-end : known ≡ true → d ≡ start → v ≡ w
     holds-end e z = sym (climb-base j kept ks start d line xs v (omega arith)) ∙ at true e .comes

@@ -3,6 +3,8 @@ use mathlib.Core.Path.{_≡_, refl, sym, ap, _∙_}
 use mathlib.Core.List.{List, [], _∷_, _++_, append-nil, append-assoc}
 use mathlib.Core.Bool.{Bool, true, false, cond, _&&_, _||_}
 use Prim.Native.Nat.{ℕ, zero, suc}
+use Rattle.std.specs.declared.result.Result.{Result}
+use Rattle.std.specs.declared.result.Result.the-variants.{Ok, Err}
 use native.Mathlib.Omega.{arith}
 use lib.ListN.{length}
 use Rattle.std.proofs.shelf.Tests.{and-parts, and-from, or-left, or-right}
@@ -10,8 +12,9 @@ use Rattle.prefix.specs.Policies.{Policy, afterReply, afterReport, line, WinsFr
 use Rattle.prefix.specs.declared.kind.Kind.{Kind}
 use Rattle.prefix.specs.declared.kind.Kind.the-variants.{Report, Reply}
 use Rattle.worth.specs.Scales.{yesNo}
-use Rattle.worth.specs.Worth.{worth}
-use Rattle.worth.specs.Winning.{YesMeansWinnable}
+use Rattle.worth.specs.Worth.{worth, Asked}
+use Rattle.worth.specs.Winning.{YesMeansWinnable, Told}
+use Rattle.worth.specs.declared.fault.WorthFault.{WorthFault}
 
 or-some : (f : Bool → Bool) (b : Bool) → f b ≡ true → (f true || f false) ≡ true
 or-some f true h = or-left (f true) (f false) h
@@ -89,3 +92,11 @@ module _ (kept : List Bool → Bool) where
 pub yes-means-winnable : YesMeansWinnable
 yes-means-winnable kept ks u =
     (λ y. (bestPolicy kept ks u, yes-wins kept ks u (bestPolicy kept ks u) (λ i v. refl) y), λ w. wins-yes kept ks u (w .0) (w .1))
+
+-- The yes-no worth, asked for, tells whether some policy wins.
+pub worth-told : (kept : List Bool → Bool) (ks : List Kind) (u : List Bool) (n : ℕ) (before after : List Bool) (r : Result Bool WorthFault)
+    → Asked yesNo n (worth yesNo kept ks u) before after r → Told (Winnable kept ks u) n before after r
+worth-told kept ks u n before after (Ok won) h =
+    let t = yes-means-winnable kept ks u in
+    (h .0, (λ y. t .0 (sym (h .1) ∙ y), λ w. h .1 ∙ t .1 w), h .2)
+worth-told kept ks u n before after (Err fault) h = h

@@ -9,7 +9,8 @@ capped n = record { value = min n 1000000; ok = min-le-right n 1000000 }
 
 abbrev pub count : Joins PolicyCount
 count = record {
-    won = capped 1;
-    lost = capped 0;
-    either = λ a b. capped (a .value + b .value);
-    both = λ a b. capped (a .value * b .value) }
+  won = capped 1;
+  lost = capped 0;
+  either = λ a b. capped (a .value + b .value);
+  both = λ a b. capped (a .value * b .value);
+}

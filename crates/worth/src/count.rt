@@ -10,6 +10,7 @@ pub impl Scale for Count as CountScale {
     type Worth = PolicyCount;
 
     const LOST: PolicyCount = PolicyCount::NONE;
+
     const WON: PolicyCount = PolicyCount::ONE;
 
     ghost joins = { count };

@@ -23,6 +23,9 @@ impl WorthFault {
 pub impl fmt::Display for WorthFault as WorthFaultDisplay {
     fn fmt<W: fmt::Write>(&self, f: &mut fmt::Formatter<W>) -> fmt::Result {
         let number = self.number();
-        write!(f, "refused {number}: the stack has fewer cells than the prefix has positions")
+        write!(
+            f,
+            "refused {number}: the stack has fewer cells than the prefix has positions"
+        )
     }
 }

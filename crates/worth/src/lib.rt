@@ -15,4 +15,5 @@ pub use policy_count::PolicyCount;
 pub use scale::Scale;
 pub use stack::WorthStack;
 pub use winning::can_win;
+pub use winning::has_winning_policy;
 pub use yes_no::YesNo;

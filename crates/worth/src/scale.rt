@@ -10,6 +10,7 @@ pub trait Scale {
     type Worth: Copy + PartialEq<Self::Worth>;
 
     const LOST: Self::Worth;
+
     const WON: Self::Worth;
 
     ghost joins: { Joins Self·Worth };
@@ -43,12 +44,20 @@ pub trait Scale {
 pub(crate) fn join<S: Scale>(report: bool, first: S::Worth, second: S::Worth) -> S::Worth
     ensures { λ r. ⌜ r ≡ joined (S·Scale .joins) report first second ⌝ }
 {
-    if report { S::both(first, second) } else { S::either(first, second) }
+    if report {
+        S::both(first, second)
+    } else {
+        S::either(first, second)
+    }
 }
 
 // Yes only where the second branch cannot change what the first is worth.
 pub(crate) fn is_settled<S: Scale>(report: bool, first: S::Worth) -> bool
     ensures { λ r. ⌜ (r ≡ true → (second : S·Worth) → joined (S·Scale .joins) report first second ≡ first) ⌝ }
 {
-    if report { first == S::lost_worth() } else { S::unbeatable(first) }
+    if report {
+        first == S::lost_worth()
+    } else {
+        S::unbeatable(first)
+    }
 }

@@ -44,7 +44,12 @@ impl<'a, W: Copy> WorthStack<'a, W> {
 
     // The worth of the part line of the first `length` values of a line; a
     // length above the prefix's is read as that.
-    pub fn worth_from<S: Scale<Worth = W>, F: Sheet>(&mut self, sheet: &F, length: usize, line: Line) -> Result<W, WorthFault>
+    pub fn worth_from<S: Scale<Worth = W>, F: Sheet>(
+        &mut self,
+        sheet: &F,
+        length: usize,
+        line: Line,
+    ) -> Result<W, WorthFault>
         ensures asked { λ r. ⌜ Asked (S·Scale .joins) (F·Sheet .prefix (now (sheet .entry)) .length) (worth (S·Scale .joins) (F·Sheet .kept (now (sheet .entry))) (drop length (kinds (F·Sheet .prefix (now (sheet .entry))))) (bits (min length (F·Sheet .prefix (now (sheet .entry)) .length)) (line .mask))) (now (now (self .entry) .cells)) (now (now (self .exit) .cells)) r ⌝ }
         ensures name { λ _. ⌜ name (now (self .exit) .cells) ≡ name (now (self .entry) .cells) ⌝ }
     {

@@ -13,7 +13,12 @@ use prefix::Line;
 use sheet::Sheet;
 
 // The worth of the part line of the first `length` values of a line.
-pub fn walk<S: Scale, F: Sheet>(cells: &mut [S::Worth], sheet: &F, length: usize, line: Line) -> Result<S::Worth, WorthFault>
+pub fn walk<S: Scale, F: Sheet>(
+    cells: &mut [S::Worth],
+    sheet: &F,
+    length: usize,
+    line: Line,
+) -> Result<S::Worth, WorthFault>
     ensures { λ r. ⌜ Asked (S·Scale .joins) (F·Sheet .prefix (now (sheet .entry)) .length) (worth (S·Scale .joins) (F·Sheet .kept (now (sheet .entry))) (drop length (kinds (F·Sheet .prefix (now (sheet .entry))))) (bits (min length (F·Sheet .prefix (now (sheet .entry)) .length)) (line .mask))) (now (cells .entry)) (now (cells .exit)) r ⌝ }
 {
     let n = sheet.prefix().len();
@@ -33,7 +38,12 @@ pub fn walk<S: Scale, F: Sheet>(cells: &mut [S::Worth], sheet: &F, length: usize
 //
 // No stack of branches is needed: the second branch is the one whose value is
 // on at a report and off at a reply.
-fn walk_from<S: Scale, F: Sheet>(cells: &mut [S::Worth], sheet: &F, start: usize, from: Line) -> S::Worth
+fn walk_from<S: Scale, F: Sheet>(
+    cells: &mut [S::Worth],
+    sheet: &F,
+    start: usize,
+    from: Line,
+) -> S::Worth
     requires within { ⌜ start ≤ F·Sheet .prefix (now sheet) .length ⌝ }
     requires cells { ⌜ F·Sheet .prefix (now sheet) .length ≤ count (now cells) ⌝ }
     ensures { λ r. ⌜ r ≡ worth (S·Scale .joins) (F·Sheet .kept (now (sheet .entry))) (drop start (kinds (F·Sheet .prefix (now (sheet .entry))))) (bits start (from .mask)) ⌝ }

@@ -1,5 +1,6 @@
 // Whether some policy wins, asked of the walk on the yes-no scale.
 ghost use mathlib.Core.Path.{_≡_};
+ghost use mathlib.Core.List.{[]};
 ghost use Prim.Native.Nat.{min};
 ghost use lib.ListN.{drop};
 ghost use denote.Ref.{name};
@@ -14,9 +15,25 @@ use crate::yes_no::YesNoScale;
 use prefix::Line;
 use sheet::Sheet;
 
+// Whether the sheet has a winning policy.
+pub fn has_winning_policy<'a, F: Sheet>(
+    stack: &mut WorthStack<'a, bool>,
+    sheet: &F,
+) -> Result<bool, WorthFault>
+    ensures told { λ r. ⌜ Told (Winnable (F·Sheet .kept (now (sheet .entry))) (kinds (F·Sheet .prefix (now (sheet .entry)))) []) (F·Sheet .prefix (now (sheet .entry)) .length) (now (now (stack .entry) .cells)) (now (now (stack .exit) .cells)) r ⌝ }
+    ensures name { λ _. ⌜ name (now (stack .exit) .cells) ≡ name (now (stack .entry) .cells) ⌝ }
+{
+    stack.worth::<YesNo, F>(sheet)
+}
+
 // Whether some policy wins from the part line of the first `length` values of a
-// line; at length 0, whether the sheet has a winning policy.
-pub fn can_win<'a, F: Sheet>(stack: &mut WorthStack<'a, bool>, sheet: &F, length: usize, line: Line) -> Result<bool, WorthFault>
+// line; a length above the prefix's is read as that.
+pub fn can_win<'a, F: Sheet>(
+    stack: &mut WorthStack<'a, bool>,
+    sheet: &F,
+    length: usize,
+    line: Line,
+) -> Result<bool, WorthFault>
     ensures told { λ r. ⌜ Told (Winnable (F·Sheet .kept (now (sheet .entry))) (drop length (kinds (F·Sheet .prefix (now (sheet .entry))))) (bits (min length (F·Sheet .prefix (now (sheet .entry)) .length)) (line .mask))) (F·Sheet .prefix (now (sheet .entry)) .length) (now (now (stack .entry) .cells)) (now (now (stack .exit) .cells)) r ⌝ }
     ensures worths { λ _. ⌜ YesMeansWinnable ⌝ }
     ensures name { λ _. ⌜ name (now (stack .exit) .cells) ≡ name (now (stack .entry) .cells) ⌝ }

@@ -8,6 +8,7 @@ pub impl Scale for YesNo as YesNoScale {
     type Worth = bool;
 
     const LOST: bool = false;
+
     const WON: bool = true;
 
     ghost joins = { yesNo };

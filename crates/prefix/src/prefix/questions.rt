@@ -17,6 +17,7 @@ use crate::line::first_positions;
 impl Prefix {
     // The most positions and the most reports of a prefix.
     pub const MOST_POSITIONS: usize = 24;
+
     pub const MOST_REPORTS: u32 = 12;
 
     // The prefix of `length` positions with the reports of the mask; `None`
@@ -50,7 +51,11 @@ impl Prefix {
         if position == 0 || position > self.length {
             return None;
         }
-        Some(if self.is_report(position) { Kind::Report } else { Kind::Reply })
+        Some(if self.is_report(position) {
+            Kind::Report
+        } else {
+            Kind::Reply
+        })
     }
 
     // Whether a report stands at a position; no at a number that is none.

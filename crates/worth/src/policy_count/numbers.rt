@@ -6,14 +6,18 @@ use std::fmt;
 
 impl PolicyCount {
     pub const LIMIT: u32 = 1_000_000;
+
     pub const NONE: PolicyCount = PolicyCount { value: 0 };
+
     pub const ONE: PolicyCount = PolicyCount { value: 1 };
 
     // The number, cut down to the limit.
     pub fn new(value: u32) -> PolicyCount
         ensures { λ r. ⌜ r ≡ capped value ⌝ }
     {
-        PolicyCount { value: value.min(Self::LIMIT) }
+        PolicyCount {
+            value: value.min(Self::LIMIT),
+        }
     }
 
     pub fn value(self) -> u32

@@ -31,8 +31,9 @@ returns g c =
     let to : c .min .result ≡ min (c .args .length) (p .length) = c .min .ensures ∙ ap (min (c .args .length)) same in
     let long = length-kinds (p .length) (p .reports) in
     let rest : drop (c .min .result) (kinds p) ≡ drop (c .args .length) (kinds p) =
-        ap (λ (k : ℕ). drop k (kinds p)) (to ∙ ap (min (c .args .length)) (sym long)) ∙ drop-min (c .args .length) (kinds p) in
-    (omega arith,
-    c .walk-from-worth .ensures ∙ ap (λ ks. worth j kept ks (bits (c .min .result) (c .args .line .mask))) rest
-        ∙ ap (λ (k : ℕ). worth j kept (drop (c .args .length) (kinds p)) (bits k (c .args .line .mask))) to,
-    (λ k h. subst (λ x. getD (c .fill .last .cells) k x ≡ x) (c .lost-worth .ensures) (c .fill .ensures k h)))
+    ap (λ (k : ℕ). drop k (kinds p)) (to ∙ ap (min (c .args .length)) (sym long)) ∙ drop-min (c .args .length) (kinds p) in (
+      omega arith,
+      c .walk-from-worth .ensures ∙ ap (λ ks. worth j kept ks (bits (c .min .result) (c .args .line .mask))) rest
+          ∙ ap (λ (k : ℕ). worth j kept (drop (c .args .length) (kinds p)) (bits k (c .args .line .mask))) to,
+      (λ k h. subst (λ x. getD (c .fill .last .cells) k x ≡ x) (c .lost-worth .ensures) (c .fill .ensures k h)),
+    )

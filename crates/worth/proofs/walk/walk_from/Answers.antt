@@ -39,7 +39,7 @@ loop-known-again-then-broken g c =
     let told = c .if-broken .ensures tt in
     holds-known _ _ _ _ _ _ _ _ _ _ (c .loop-known .inv) (c .lost-worth-worth-then-broken .result) (c .if-not-known .taken)
     (c .lost-worth-worth-then-broken .ensures
-        ∙ answer-lost (g .S·Scale .joins) _ _ (c .prefix-prefix .result) _ (c .prefix-prefix .ensures) (told .sound) (c .loop-known .length) (c .loop-known .line .mask) (c .loop-known .inv .within) (g .S·Scale·met .lawful) (told .answer))
+    ∙ answer-lost (g .S·Scale .joins) _ _ (c .prefix-prefix .result) _ (c .prefix-prefix .ensures) (told .sound) (c .loop-known .length) (c .loop-known .line .mask) (c .loop-known .inv .within) (g .S·Scale·met .lawful) (told .answer))
 
 pub loop-known-less-then-length-n : need.loop-known-less-then-length-n
 loop-known-less-then-length-n g c = fewer-known _ _ _ _ (c .if-not-known .taken)
@@ -49,8 +49,8 @@ loop-known-again-then-length-n g c =
     let told = c .if-broken .ensures tt in
     holds-known _ _ _ _ _ _ _ _ _ _ (c .loop-known .inv) (c .won-worth-worth .result) (c .if-not-known .taken)
     (c .won-worth-worth .ensures
-        ∙ answer-won (g .S·Scale .joins) _ _ (c .prefix-prefix .result) _ (c .prefix-prefix .ensures) (told .sound) (c .loop-known .length) (c .loop-known .line .mask) (c .loop-known .inv .within) (told .answer)
-            (c .if-length-n .taken ∙ c .len-n .ensures .value))
+    ∙ answer-won (g .S·Scale .joins) _ _ (c .prefix-prefix .result) _ (c .prefix-prefix .ensures) (told .sound) (c .loop-known .length) (c .loop-known .line .mask) (c .loop-known .inv .within) (told .answer)
+    (c .if-length-n .taken ∙ c .len-n .ensures .value))
 
 pub loop-known-less-then-not-known : need.loop-known-less-then-not-known
 loop-known-less-then-not-known g c =
@@ -90,7 +90,7 @@ loop-known-again-then-value-report g c =
     let e : d ≡ suc (d - 1) = omega arith in
     let room : p .length ≤ length (c .args .cells .now) = subst (λ (q : Prefix). q .length ≤ length (c .args .cells .now)) (sym (c .prefix-prefix .ensures)) (c .pre .cells) in
     let cell = getD-read (c .loop-known .cells) (d - 1) (c .index-cells-last .result)
-        (omega (arith, c .loop-known .inv .within, length-kinds (p .length) (p .reports), c .loop-known .kept .cells)) (c .index-cells-last .is) (j .lost) in
+    (omega (arith, c .loop-known .inv .within, length-kinds (p .length) (p .reports), c .loop-known .kept .cells)) (c .index-cells-last .is) (j .lost) in
     holds-up _ _ _ _ _ _ _ _ _ _ (c .loop-known .inv) (d - 1) e (c .if-length-start .left) (c .index-cells-last .result) (c .join-worth .result) (c .if-not-known .left)
     (branch _ _ d (d - 1) _ _ true e (c .value .ensures) (c .is-report-report .ensures) (c .if-value-report .taken)) (sym cell)
     (c .join-worth .ensures ∙ ap (λ (q : Bool). joined j q (c .index-cells-last .result) (c .loop-known .worth)) (c .is-report-report .ensures ∙ ap (isReport (kinds p)) e))

@@ -16,6 +16,6 @@ returns c =
     let at : suc i ≡ c .args .position = omega arith in
     let one : 2 ^ i ≡ (1 * 2 ^ i) % 2 ^ 32 = sym (one-shl i 32 (omega arith)) in
     let other : Bool·beq (bit m i) v ≡ false =
-        ap (λ (b : Bool). Bool·beq b v) (sym (c .value .ensures ∙ value-inside m (c .args .position) i (sym at))) ∙ c .if-value .left in
+    ap (λ (b : Bool). Bool·beq b v) (sym (c .value .ensures ∙ value-inside m (c .args .position) i (sym at))) ∙ c .if-value .left in
     subst (λ (k : ℕ). Changed m k v (bitXor m ((1 * 2 ^ i) % 2 ^ 32))) at
     (subst (λ (b : ℕ). Changed m (suc i) v (bitXor m b)) one (flip-changes m i v other))

@@ -21,7 +21,7 @@ inside c =
     let at : suc i ≡ c .args .position = omega arith in
     subst (λ (k : ℕ). Some (kindOf false) ≡ kindAt (kinds p) k) at
     (sym (kind-from-report (p .length) (p .reports) i false (omega arith)
-        (sym (c .if-is-report .left) ∙ c .is-report .ensures ∙ ap (isReport (kinds p)) (sym at))))
+    (sym (c .if-is-report .left) ∙ c .is-report .ensures ∙ ap (isReport (kinds p)) (sym at))))
 
 pub returns-else-is-report : need.returns-else-is-report
 returns-else-is-report c = inside c

@@ -5,7 +5,8 @@ use Rattle.prefix.proofs.prefix.Prefix.len.Needs as need
 
 pub returns : need.returns
 returns c = record {
-    value = refl;
-    kinds = sym (length-kinds (c .args .self .length) (c .args .self .reports));
-    some = omega arith;
-    few = omega arith }
+  value = refl;
+  kinds = sym (length-kinds (c .args .self .length) (c .args .self .reports));
+  some = omega arith;
+  few = omega arith;
+}

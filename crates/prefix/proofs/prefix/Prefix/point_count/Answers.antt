@@ -13,9 +13,10 @@ loop-before-again c =
     let k = c .loop-before .before in
     let here : c .points-at-points .result ≡ pointsAt ks (suc k) = c .points-at-points .ensures .value ∙ ap (pointsAt ks) (add-one k) in
     let few = c .points-at-points .ensures .few in
-    let most = c .loop-before .inv .1 in
-    (ap (λ (x : ℕ). x + c .points-at-points .result) (c .loop-before .inv .0) ∙ ap (λ (x : ℕ). pointsTo ks k + x) here ∙ ap (pointsTo ks) (sym (add-one k)),
-    omega arith)
+    let most = c .loop-before .inv .1 in (
+      ap (λ (x : ℕ). x + c .points-at-points .result) (c .loop-before .inv .0) ∙ ap (λ (x : ℕ). pointsTo ks k + x) here ∙ ap (pointsTo ks) (sym (add-one k)),
+      omega arith,
+    )
 
 pub returns : need.returns
 returns c =

@@ -19,4 +19,5 @@ returns c =
     let reply : isReply ks k ≡ true = sym (c .is-reply .ensures) ∙ c .if-not-is-reply .left in
     record {
       value = one ∙ ap (λ (n : ℕ). 2 ^ n) (c .reports-before .ensures .value) ∙ sym (cond-true (isReply ks k) (2 ^ reportsBefore ks k) 0 reply);
-      few = omega (arith, one, pow-mono few) }
+      few = omega (arith, one, pow-mono few);
+    }

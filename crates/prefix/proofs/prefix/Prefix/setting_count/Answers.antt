@@ -20,4 +20,5 @@ returns c =
       value = one ∙ ap (λ (n : ℕ). 2 ^ n) (sym (count-whole (p .length) (p .reports) (omega arith)));
       few = omega (arith, one, pow-mono few);
       numbering = numbering (reportCount (kinds p));
-      lines = one-line (kinds p) }
+      lines = one-line (kinds p);
+    }

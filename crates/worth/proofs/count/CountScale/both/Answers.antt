@@ -9,5 +9,5 @@ use Rattle.worth.proofs.count.CountScale.both.Needs as need
 pub returns : need.returns
 returns c =
     let product : c .value .result * c .value-2 .result ≡ c .args .first .value * c .args .second .value =
-        ap (λ (x : ℕ). x * c .value-2 .result) (c .value .ensures) ∙ ap (λ (y : ℕ). c .args .first .value * y) (c .value-2 .ensures) in
+    ap (λ (x : ℕ). x * c .value-2 .result) (c .value .ensures) ∙ ap (λ (y : ℕ). c .args .first .value * y) (c .value-2 .ensures) in
     c .new .ensures ∙ same-count (capped (c .saturating-mul .result)) (capped (c .args .first .value * c .args .second .value)) (omega arith)
