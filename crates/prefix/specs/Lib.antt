@@ -5,3 +5,4 @@ pub mod Prefixes
 pub mod Settings
 pub mod Points
 pub mod Policies
+pub mod Lines

@@ -11,6 +11,7 @@ use Rattle.std.proofs.shelf.Tests.{and-parts, and-from, or-left, or-right}
 use Rattle.prefix.specs.Policies.{Policy, afterReply, afterReport, line, WinsFrom, Winnable}
 use Rattle.prefix.specs.declared.kind.Kind.{Kind}
 use Rattle.prefix.specs.declared.kind.Kind.the-variants.{Report, Reply}
+use Rattle.prefix.specs.declared.prefix.Prefix.{Prefix}
 use Rattle.worth.specs.Scales.{yesNo}
 use Rattle.worth.specs.Worth.{worth, Asked}
 use Rattle.worth.specs.Winning.{YesMeansWinnable, Told}
@@ -94,9 +95,9 @@ yes-means-winnable kept ks u =
     (λ y. (bestPolicy kept ks u, yes-wins kept ks u (bestPolicy kept ks u) (λ i v. refl) y), λ w. wins-yes kept ks u (w .0) (w .1))
 
 -- The yes-no worth, asked for, tells whether some policy wins.
-pub worth-told : (kept : List Bool → Bool) (ks : List Kind) (u : List Bool) (n : ℕ) (before after : List Bool) (r : Result Bool WorthFault)
-    → Asked yesNo n (worth yesNo kept ks u) before after r → Told (Winnable kept ks u) n before after r
-worth-told kept ks u n before after (Ok won) h =
+pub worth-told : (kept : List Bool → Bool) (ks : List Kind) (u : List Bool) (p : Prefix) (before after : List Bool) (r : Result Bool WorthFault)
+    → Asked yesNo p (worth yesNo kept ks u) before after r → Told (Winnable kept ks u) p before after r
+worth-told kept ks u p before after (Ok won) h =
     let t = yes-means-winnable kept ks u in
     (h .0, (λ y. t .0 (sym (h .1) ∙ y), λ w. h .1 ∙ t .1 w), h .2)
-worth-told kept ks u n before after (Err fault) h = h
+worth-told kept ks u p before after (Err fault) h = h

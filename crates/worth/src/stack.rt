@@ -1,12 +1,8 @@
 // The stack of worths that a walk keeps the first branches' worths in.
 ghost use mathlib.Core.Path.{_≡_};
-ghost use mathlib.Core.List.{[]};
-ghost use Prim.Native.Nat.{ℕ, min};
-ghost use lib.ListN.{drop, length as count};
+ghost use lib.ListN.{length as count};
 ghost use denote.Ref.{name};
-ghost use Rattle.prefix.specs.Bits.{bits};
-ghost use Rattle.prefix.specs.Prefixes.{kinds};
-ghost use Rattle.worth.specs.Worth.{worth, Asked};
+ghost use Rattle.worth.specs.Worth.{worthOf, worthFrom, Asked};
 use crate::fault::WorthFault;
 use crate::scale::Scale;
 use crate::walk::walk;
@@ -36,7 +32,7 @@ impl<'a, W: Copy> WorthStack<'a, W> {
 
     // The worth of a sheet: that of the part line of no values.
     pub fn worth<S: Scale<Worth = W>, F: Sheet>(&mut self, sheet: &F) -> Result<W, WorthFault>
-        ensures asked { λ r. ⌜ Asked (S·Scale .joins) (F·Sheet .prefix (now (sheet .entry)) .length) (worth (S·Scale .joins) (F·Sheet .kept (now (sheet .entry))) (kinds (F·Sheet .prefix (now (sheet .entry)))) []) (now (now (self .entry) .cells)) (now (now (self .exit) .cells)) r ⌝ }
+        ensures asked { λ r. ⌜ Asked (S·Scale .joins) (F·Sheet .prefix (now (sheet .entry))) (worthOf (S·Scale .joins) (F·Sheet .kept (now (sheet .entry))) (F·Sheet .prefix (now (sheet .entry)))) (now (now (self .entry) .cells)) (now (now (self .exit) .cells)) r ⌝ }
         ensures name { λ _. ⌜ name (now (self .exit) .cells) ≡ name (now (self .entry) .cells) ⌝ }
     {
         walk::<S, F>(self.cells, sheet, 0, Line::from_mask(0))
@@ -50,7 +46,7 @@ impl<'a, W: Copy> WorthStack<'a, W> {
         length: usize,
         line: Line,
     ) -> Result<W, WorthFault>
-        ensures asked { λ r. ⌜ Asked (S·Scale .joins) (F·Sheet .prefix (now (sheet .entry)) .length) (worth (S·Scale .joins) (F·Sheet .kept (now (sheet .entry))) (drop length (kinds (F·Sheet .prefix (now (sheet .entry))))) (bits (min length (F·Sheet .prefix (now (sheet .entry)) .length)) (line .mask))) (now (now (self .entry) .cells)) (now (now (self .exit) .cells)) r ⌝ }
+        ensures asked { λ r. ⌜ Asked (S·Scale .joins) (F·Sheet .prefix (now (sheet .entry))) (worthFrom (S·Scale .joins) (F·Sheet .kept (now (sheet .entry))) (F·Sheet .prefix (now (sheet .entry))) length line) (now (now (self .entry) .cells)) (now (now (self .exit) .cells)) r ⌝ }
         ensures name { λ _. ⌜ name (now (self .exit) .cells) ≡ name (now (self .entry) .cells) ⌝ }
     {
         walk::<S, F>(self.cells, sheet, length, line)

@@ -1,10 +1,10 @@
 // The one walk over part lines, for every scale and every kind of sheet.
 ghost use mathlib.Core.Path.{_≡_};
-ghost use Prim.Native.Nat.{ℕ, _<_, _≤_, min};
+ghost use Prim.Native.Nat.{ℕ, _<_, _≤_};
 ghost use lib.ListN.{length as count, getD, drop};
 ghost use Rattle.prefix.specs.Bits.{bits};
 ghost use Rattle.prefix.specs.Prefixes.{kinds};
-ghost use Rattle.worth.specs.Worth.{worth, Asked};
+ghost use Rattle.worth.specs.Worth.{worth, worthFrom, Asked};
 use crate::fault::WorthFault;
 use crate::scale::Scale;
 use crate::scale::is_settled;
@@ -19,7 +19,7 @@ pub fn walk<S: Scale, F: Sheet>(
     length: usize,
     line: Line,
 ) -> Result<S::Worth, WorthFault>
-    ensures { λ r. ⌜ Asked (S·Scale .joins) (F·Sheet .prefix (now (sheet .entry)) .length) (worth (S·Scale .joins) (F·Sheet .kept (now (sheet .entry))) (drop length (kinds (F·Sheet .prefix (now (sheet .entry))))) (bits (min length (F·Sheet .prefix (now (sheet .entry)) .length)) (line .mask))) (now (cells .entry)) (now (cells .exit)) r ⌝ }
+    ensures { λ r. ⌜ Asked (S·Scale .joins) (F·Sheet .prefix (now (sheet .entry))) (worthFrom (S·Scale .joins) (F·Sheet .kept (now (sheet .entry))) (F·Sheet .prefix (now (sheet .entry))) length line) (now (cells .entry)) (now (cells .exit)) r ⌝ }
 {
     let n = sheet.prefix().len();
     if cells.len() < n {

@@ -1,13 +1,7 @@
 // Whether some policy wins, asked of the walk on the yes-no scale.
 ghost use mathlib.Core.Path.{_≡_};
-ghost use mathlib.Core.List.{[]};
-ghost use Prim.Native.Nat.{min};
-ghost use lib.ListN.{drop};
 ghost use denote.Ref.{name};
-ghost use Rattle.prefix.specs.Bits.{bits};
-ghost use Rattle.prefix.specs.Prefixes.{kinds};
-ghost use Rattle.prefix.specs.Policies.{Winnable};
-ghost use Rattle.worth.specs.Winning.{YesMeansWinnable, Told};
+ghost use Rattle.worth.specs.Winning.{WinnableOf, WinnableFrom, YesMeansWinnable, Told};
 use crate::fault::WorthFault;
 use crate::stack::WorthStack;
 use crate::yes_no::YesNo;
@@ -20,7 +14,7 @@ pub fn has_winning_policy<'a, F: Sheet>(
     stack: &mut WorthStack<'a, bool>,
     sheet: &F,
 ) -> Result<bool, WorthFault>
-    ensures told { λ r. ⌜ Told (Winnable (F·Sheet .kept (now (sheet .entry))) (kinds (F·Sheet .prefix (now (sheet .entry)))) []) (F·Sheet .prefix (now (sheet .entry)) .length) (now (now (stack .entry) .cells)) (now (now (stack .exit) .cells)) r ⌝ }
+    ensures told { λ r. ⌜ Told (WinnableOf (F·Sheet .kept (now (sheet .entry))) (F·Sheet .prefix (now (sheet .entry)))) (F·Sheet .prefix (now (sheet .entry))) (now (now (stack .entry) .cells)) (now (now (stack .exit) .cells)) r ⌝ }
     ensures name { λ _. ⌜ name (now (stack .exit) .cells) ≡ name (now (stack .entry) .cells) ⌝ }
 {
     stack.worth::<YesNo, F>(sheet)
@@ -34,7 +28,7 @@ pub fn can_win<'a, F: Sheet>(
     length: usize,
     line: Line,
 ) -> Result<bool, WorthFault>
-    ensures told { λ r. ⌜ Told (Winnable (F·Sheet .kept (now (sheet .entry))) (drop length (kinds (F·Sheet .prefix (now (sheet .entry))))) (bits (min length (F·Sheet .prefix (now (sheet .entry)) .length)) (line .mask))) (F·Sheet .prefix (now (sheet .entry)) .length) (now (now (stack .entry) .cells)) (now (now (stack .exit) .cells)) r ⌝ }
+    ensures told { λ r. ⌜ Told (WinnableFrom (F·Sheet .kept (now (sheet .entry))) (F·Sheet .prefix (now (sheet .entry))) length line) (F·Sheet .prefix (now (sheet .entry))) (now (now (stack .entry) .cells)) (now (now (stack .exit) .cells)) r ⌝ }
     ensures worths { λ _. ⌜ YesMeansWinnable ⌝ }
     ensures name { λ _. ⌜ name (now (stack .exit) .cells) ≡ name (now (stack .entry) .cells) ⌝ }
 {

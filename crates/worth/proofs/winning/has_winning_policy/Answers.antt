@@ -7,6 +7,6 @@ pub returns : need.returns
 returns g c =
     let p = g .F·Sheet .prefix (c .args .sheet .now) in
     record {
-      told = worth-told (g .F·Sheet .kept (c .args .sheet .now)) (kinds p) [] (p .length) _ _ (c .worth .result) (c .worth .ensures .asked);
+      told = worth-told (g .F·Sheet .kept (c .args .sheet .now)) (kinds p) [] p _ _ (c .worth .result) (c .worth .ensures .asked);
       name = c .worth .ensures .name;
     }
