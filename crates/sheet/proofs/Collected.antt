@@ -10,11 +10,11 @@ use Rattle.std.specs.declared.option.Option.{Option}
 use Rattle.std.specs.declared.option.Option.the-variants.{Some, None}
 use Rattle.std.proofs.shelf.Tests.{cases-eq, cases-bool, cond-true, cond-false, eq-eqb, ne-eqb, eqb-false}
 use Rattle.sheet.specs.Rules.{wantedAt}
-use Rattle.sheet.specs.Literals.{InRange, Nameable, Joined, Distinct, lookup}
+use Rattle.sheet.specs.Literals.{InRange, Nameable, Joined, Distinct, Made, lookup}
 use Rattle.sheet.specs.declared.literal.Literal.{Literal}
 use Rattle.sheet.specs.declared.rule.Rule.{Rule}
 
-some-not-none : {A : Type 0} (x : A) → _≡_ {A = Option A} (Some x) None → ⊥
+pub some-not-none : {A : Type 0} (x : A) → _≡_ {A = Option A} (Some x) None → ⊥
 some-not-none x e = let z : _≡_ {A = ℕ} 0 1 = cc in omega arith
 
 -- What a list with nothing at a position has in its parts.
@@ -54,22 +54,18 @@ module _ (l : Literal) where
       let rest = distinct-at xs ys (d .2) in
       (rest .0, none-more x xs (l .position) (λ e. taken xs ys (x .position) (d .1) (sym e)) ∙ rest .1)
 
--- The rule r has the literals ls, and these are distinct.
-pub record Collects (ls : List Literal) (r : Rule) : Type 0 where
-  pub distinct : Distinct ls
-  pub wanted : (k : ℕ) → wantedAt r k ≡ lookup ls k
-
-pub collects-more : (ls : List Literal) (l : Literal) (r r' : Rule) → Collects ls r → Joined r l r' → Collects (ls ++ l ∷ []) r'
-collects-more ls l r r' h j =
+pub made-more : (ls : List Literal) (l : Literal) (r r' : Rule) → Made ls r → Joined r l r' → Made (ls ++ l ∷ []) r'
+made-more ls l r r' h j =
     let free : lookup ls (l .position) ≡ None = sym (h .wanted (l .position)) ∙ j .nameable .1 in
     record {
       distinct = distinct-push l ls (h .distinct) (j .nameable .0) free;
       wanted = λ k. ⊎-elim (λ (e : k ≡ l .position). subst (λ (k : ℕ). wantedAt r' k ≡ lookup (ls ++ l ∷ []) k) (sym e) (j .here ∙ sym (lookup-here l ls free)))
           (λ (ne : k ≡ l .position → ⊥). j .elsewhere k ne ∙ h .wanted k ∙ sym (lookup-else l ls k ne)) (cases-eq k (l .position));
+      tidy = j .tidy (h .tidy);
     }
 
 -- Of distinct literals a rule of those before takes the next.
-pub collects-next : (ls : List Literal) (l : Literal) (rest : List Literal) (r : Rule) → Collects ls r → Distinct (ls ++ l ∷ rest) → Nameable r l
-collects-next ls l rest r h d =
+pub made-next : (ls : List Literal) (l : Literal) (rest : List Literal) (r : Rule) → Made ls r → Distinct (ls ++ l ∷ rest) → Nameable r l
+made-next ls l rest r h d =
     let at = distinct-at l ls rest d in
     (at .0, h .wanted (l .position) ∙ at .1)

@@ -1,11 +1,12 @@
 -- Rules put together from literals.
 use mathlib.Core.Path.{_≡_}
 use mathlib.Core.List.{List, [], _∷_}
-use mathlib.Core.Bool.{Bool, cond}
+use mathlib.Core.Bool.{Bool, false, cond}
 use Prim.Native.Nat.{ℕ, _≤_}
 use lib.Dec.{eqb}
 use Rattle.std.specs.declared.option.Option.{Option}
 use Rattle.std.specs.declared.option.Option.the-variants.{Some, None}
+use Rattle.prefix.specs.Bits.{maskValue}
 use Rattle.sheet.specs.Rules.{wantedAt}
 use Rattle.sheet.specs.declared.literal.Literal.{Literal}
 use Rattle.sheet.specs.declared.rule.Rule.{Rule}
@@ -17,11 +18,16 @@ InRange l = (1 ≤ l .position) × (l .position ≤ 24)
 abbrev pub Nameable : Rule → Literal → Type 0
 Nameable r l = InRange l × (wantedAt r (l .position) ≡ None)
 
+-- A rule keeps no value where it names no position, so that rules with the same literals are the same rule.
+abbrev pub Tidy : Rule → Type 0
+Tidy r = (k : ℕ) → wantedAt r k ≡ None → maskValue (r .wanted) k ≡ false
+
 -- The rule r' is r with the literal l.
 pub record Joined (r : Rule) (l : Literal) (r' : Rule) : Type 0 where
   pub nameable : Nameable r l
   pub here : wantedAt r' (l .position) ≡ Some (l .wanted)
   pub elsewhere : (k : ℕ) → (k ≡ l .position → ⊥) → wantedAt r' k ≡ wantedAt r k
+  pub tidy : Tidy r → Tidy r'
 
 -- The value that a list of literals wants at a position.
 abbrev pub lookup : List Literal → ℕ → Option Bool
@@ -32,3 +38,9 @@ lookup (l ∷ ls) k = cond (eqb k (l .position)) (Some (l .wanted)) (lookup ls k
 abbrev pub Distinct : List Literal → Type 0
 Distinct [] = Unit {0}
 Distinct (l ∷ ls) = InRange l × (lookup ls (l .position) ≡ None) × Distinct ls
+
+-- The rule r has the literals ls, which are distinct, and nothing else.
+pub record Made (ls : List Literal) (r : Rule) : Type 0 where
+  pub distinct : Distinct ls
+  pub wanted : (k : ℕ) → wantedAt r k ≡ lookup ls k
+  pub tidy : Tidy r

@@ -1,13 +1,13 @@
 // Rules: sets of literals that name no position twice, as two masks.
 ghost use mathlib.Core.Path.{_≡_};
+ghost use mathlib.Core.List.{[]};
 ghost use mathlib.Core.Bool.{_&&_};
 ghost use Prim.Native.Nat.{ℕ, _≤_};
 ghost use lib.ListN.{take};
 ghost use Rattle.std.specs.Options.{Cases};
-ghost use Rattle.std.specs.declared.option.Option.the-variants.{None};
 ghost use Rattle.prefix.specs.Bits.{bit, bits};
 ghost use Rattle.sheet.specs.Rules.{wantedAt, literalAt, literals, fails, some, every};
-ghost use Rattle.sheet.specs.Literals.{Nameable, Joined, Distinct, lookup};
+ghost use Rattle.sheet.specs.Literals.{Nameable, Joined, Distinct, Made};
 use crate::literal::Literal;
 use prefix::Line;
 use prefix::Prefix;
@@ -24,7 +24,7 @@ pub struct Rule {
 impl Rule {
     // The rule without literals.
     pub fn empty() -> Rule
-        ensures { λ r. ⌜ ((k : ℕ) → wantedAt r k ≡ None) ⌝ }
+        ensures { λ r. ⌜ Made [] r ⌝ }
     {
         Rule {
             named: 0,
@@ -65,7 +65,7 @@ impl Rule {
     // The rule of these literals; `None` where one stands at a position that is
     // not 1 to 24, or two at the same.
     pub fn of(literals: &[Literal]) -> Option<Rule>
-        ensures { λ r. ⌜ Cases r (Distinct (now (literals .entry)) → ⊥) (λ rule. Distinct (now (literals .entry)) × ((k : ℕ) → wantedAt rule k ≡ lookup (now (literals .entry)) k)) ⌝ }
+        ensures { λ r. ⌜ Cases r (Distinct (now (literals .entry)) → ⊥) (Made (now (literals .entry))) ⌝ }
     {
         let mut rule = Rule::empty();
         for literal in literals {

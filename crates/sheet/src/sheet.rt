@@ -2,9 +2,8 @@
 ghost use mathlib.Core.Path.{_≡_};
 ghost use mathlib.Core.List.{List};
 ghost use mathlib.Core.Bool.{Bool};
-ghost use Prim.Native.Nat.{min};
 ghost use denote.Ref.{now};
-ghost use Rattle.prefix.specs.Bits.{bits};
+ghost use Rattle.prefix.specs.Lines.{partLine};
 ghost use Rattle.prefix.specs.declared.prefix.Prefix.{Prefix};
 ghost use Rattle.sheet.specs.Meaning.{Sound};
 use prefix::Line;
@@ -26,6 +25,6 @@ pub trait Sheet {
     // Whether the first `length` values of a line break the sheet already. A
     // length above the prefix's is read as that; later values do not count.
     fn broken(&self, length: usize, line: Line) -> bool
-        ensures answer { λ r. ⌜ r ≡ broken (now (self .entry)) (bits (min length (prefix (now (self .entry)) .length)) (line .mask)) ⌝ }
+        ensures answer { λ r. ⌜ r ≡ broken (now (self .entry)) (partLine (prefix (now (self .entry))) length line) ⌝ }
         ensures sound { λ _. ⌜ Sound (prefix (now (self .entry)) .length) (kept (now (self .entry))) (broken (now (self .entry))) ⌝ };
 }
