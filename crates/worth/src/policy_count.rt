@@ -6,6 +6,8 @@ ghost use Prim.Native.Nat.{_≤_};
 
 mod numbers;
 
+pub use numbers::PolicyCountDisplay;
+
 // 0 to 1,000,000; the last stands for that many or more.
 #[derive(Clone, Copy, PartialEq, Eq, Debug)]
 pub struct PolicyCount {
