@@ -7,6 +7,8 @@ use lib.ListN.{length, getD}
 use Rattle.std.specs.declared.option.Option.{Option}
 use Rattle.std.specs.declared.option.Option.the-variants.{Some, None}
 use Rattle.prefix.specs.Bits.{bit}
+use Rattle.sheet.specs.declared.form.Form.{Form}
+use Rattle.sheet.specs.declared.form.Form.the-variants.{Cnf, Dnf}
 use Rattle.sheet.specs.declared.literal.Literal.{Literal}
 use Rattle.sheet.specs.declared.rule.Rule.{Rule}
 
@@ -59,3 +61,8 @@ termsKept n rules v = some rules (λ r. every (literals r n) (holds v))
 
 abbrev pub termsBroken : ℕ → List Rule → List Bool → Bool
 termsBroken n rules u = every rules (λ r. some (literals r n) (fails u))
+
+-- The lines that the rules of a sheet keep, by its form.
+abbrev pub rulesKept : Form → ℕ → List Rule → List Bool → Bool
+rulesKept Cnf = clausesKept
+rulesKept Dnf = termsKept

@@ -1,6 +1,6 @@
 // The sheets that the program counts, as values.
-use crate::policies::Form;
 use prefix::Prefix;
+use sheet::Form;
 use sheet::Literal;
 use sheet::Rule;
 use std::alloc::Global;
@@ -66,8 +66,26 @@ impl Sample {
             Sample::SiteF => {
                 rules.push(rule(&[Literal::on(2), Literal::on(3)])?)?;
                 rules.push(rule(&[Literal::off(2), Literal::off(3), Literal::on(4)])?)?;
-                rules.push(rule(&[Literal::off(2), Literal::on(3), Literal::off(1), Literal::off(4)])?)?;
-                rules.push(rule(&[Literal::off(2), Literal::on(3), Literal::on(1), Literal::on(4)])?)?;
+                rules.push(
+                    rule(
+                        &[
+                            Literal::off(2),
+                            Literal::on(3),
+                            Literal::off(1),
+                            Literal::off(4),
+                        ],
+                    )?,
+                )?;
+                rules.push(
+                    rule(
+                        &[
+                            Literal::off(2),
+                            Literal::on(3),
+                            Literal::on(1),
+                            Literal::on(4),
+                        ],
+                    )?,
+                )?;
             }
             Sample::ReportFirst => {
                 rules.push(rule(&[Literal::off(3), Literal::on(1)])?)?;

@@ -1,6 +1,7 @@
 // What a part line is worth to the box, on any scale: whether some policy wins
 // from there, how many do. One walk serves every scale and every kind of sheet.
 pub mod count;
+pub mod counting;
 pub mod fault;
 pub mod policy_count;
 pub mod scale;
@@ -10,6 +11,7 @@ pub mod winning;
 pub mod yes_no;
 
 pub use count::Count;
+pub use counting::count_policies;
 pub use fault::WorthFault;
 pub use policy_count::PolicyCount;
 pub use scale::Scale;
