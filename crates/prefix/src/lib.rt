@@ -8,3 +8,6 @@ pub use kind::Kind;
 pub use line::Line;
 pub use line::first_positions;
 pub use prefix::Prefix;
+
+#[cfg(test)]
+mod tests;

@@ -1,5 +1,7 @@
 // Why a worth is refused.
 ghost use mathlib.Core.Path.{_≡_};
+ghost use lib.Chars.{codes};
+ghost use Rattle.std.specs.declared.option.Option.the-variants.{Some};
 ghost use Rattle.worth.specs.Faults.{refusal};
 use std::fmt;
 
@@ -21,11 +23,9 @@ impl WorthFault {
 }
 
 pub impl fmt::Display for WorthFault as WorthFaultDisplay {
+    ghost shown = { λ _. Some (codes "the stack has fewer cells than the prefix has positions") };
+
     fn fmt<W: fmt::Write>(&self, f: &mut fmt::Formatter<W>) -> fmt::Result {
-        let number = self.number();
-        write!(
-            f,
-            "refused {number}: the stack has fewer cells than the prefix has positions"
-        )
+        write!(f, "the stack has fewer cells than the prefix has positions")
     }
 }

@@ -19,3 +19,6 @@ pub use stack::WorthStack;
 pub use winning::can_win;
 pub use winning::has_winning_policy;
 pub use yes_no::YesNo;
+
+#[cfg(test)]
+mod tests;

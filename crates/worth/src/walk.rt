@@ -26,7 +26,8 @@ pub fn walk<S: Scale, F: Sheet>(
         return Err(WorthFault::StackTooShort);
     }
     let worth = walk_from::<S, F>(cells, sheet, length.min(n), line);
-    fill(cells, S::lost_worth());
+    let lost = S::lost_worth();
+    fill(cells, lost);
     Ok(worth)
 }
 

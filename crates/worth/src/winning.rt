@@ -9,17 +9,6 @@ use crate::yes_no::YesNoScale;
 use prefix::Line;
 use sheet::Sheet;
 
-// Whether the sheet has a winning policy.
-pub fn has_winning_policy<'a, F: Sheet>(
-    stack: &mut WorthStack<'a, bool>,
-    sheet: &F,
-) -> Result<bool, WorthFault>
-    ensures told { λ r. ⌜ Told (WinnableOf (F·Sheet .kept (now (sheet .entry))) (F·Sheet .prefix (now (sheet .entry)))) (F·Sheet .prefix (now (sheet .entry))) (now (now (stack .entry) .cells)) (now (now (stack .exit) .cells)) r ⌝ }
-    ensures name { λ _. ⌜ name (now (stack .exit) .cells) ≡ name (now (stack .entry) .cells) ⌝ }
-{
-    stack.worth::<YesNo, F>(sheet)
-}
-
 // Whether some policy wins from the part line of the first `length` values of a
 // line; a length above the prefix's is read as that.
 pub fn can_win<'a, F: Sheet>(
@@ -33,4 +22,15 @@ pub fn can_win<'a, F: Sheet>(
     ensures name { λ _. ⌜ name (now (stack .exit) .cells) ≡ name (now (stack .entry) .cells) ⌝ }
 {
     stack.worth_from::<YesNo, F>(sheet, length, line)
+}
+
+// Whether the sheet has a winning policy.
+pub fn has_winning_policy<'a, F: Sheet>(
+    stack: &mut WorthStack<'a, bool>,
+    sheet: &F,
+) -> Result<bool, WorthFault>
+    ensures told { λ r. ⌜ Told (WinnableOf (F·Sheet .kept (now (sheet .entry))) (F·Sheet .prefix (now (sheet .entry)))) (F·Sheet .prefix (now (sheet .entry))) (now (now (stack .entry) .cells)) (now (now (stack .exit) .cells)) r ⌝ }
+    ensures name { λ _. ⌜ name (now (stack .exit) .cells) ≡ name (now (stack .entry) .cells) ⌝ }
+{
+    can_win(stack, sheet, 0, Line::from_mask(0))
 }

@@ -1,5 +1,7 @@
 // Counts from numbers, and back.
 ghost use mathlib.Core.Path.{_≡_};
+ghost use Rattle.std.specs.Written.{decimal};
+ghost use Rattle.std.specs.declared.option.Option.the-variants.{Some};
 ghost use Rattle.worth.specs.Counts.{capped};
 use super::PolicyCount;
 use std::fmt;
@@ -28,6 +30,8 @@ impl PolicyCount {
 }
 
 pub impl fmt::Display for PolicyCount as PolicyCountDisplay {
+    ghost shown = { λ c. Some (decimal (c .value)) };
+
     fn fmt<W: fmt::Write>(&self, f: &mut fmt::Formatter<W>) -> fmt::Result {
         let value = self.value;
         write!(f, "{value}")

@@ -35,5 +35,5 @@ returns g c =
       omega arith,
       c .walk-from-worth .ensures ∙ ap (λ ks. worth j kept ks (bits (c .min .result) (c .args .line .mask))) rest
           ∙ ap (λ (k : ℕ). worth j kept (drop (c .args .length) (kinds p)) (bits k (c .args .line .mask))) to,
-      (λ k h. subst (λ x. getD (c .fill .last .cells) k x ≡ x) (c .lost-worth .ensures) (c .fill .ensures k h)),
+      (λ k h. subst (λ x. getD (c .fill .last .cells) k x ≡ x) (c .lost-worth-lost .ensures) (c .fill .ensures k h)),
     )
