@@ -15,6 +15,7 @@ kindAt [] (suc i) = None
 kindAt (q ∷ ks) (suc zero) = Some q
 kindAt (q ∷ ks) (suc (suc i)) = kindAt ks (suc i)
 
+-- Whether what stands somewhere, if anything, is a report, or a reply.
 abbrev pub someReport : Option Kind → Bool
 someReport (Some Report) = true
 someReport (Some Reply) = false

@@ -7,7 +7,8 @@ use native.Mathlib.Omega.{arith}
 use lib.Bits.{bitAnd, bitXor, and-mask}
 use lib.Dec.{eqb, leb, ltb}
 use lib.ListN.{getD}
-use Rattle.std.proofs.shelf.Tests.{and-parts, and-from, and-left, cases-lt, cases-bool, lt-ltb, le-ltb, eq-eqb, ne-eqb, eqb-true, ltb-true, both-ways}
+use Rattle.std.proofs.shelf.Tests.{and-parts, and-from, and-left, and-right, cases-lt, cases-bool, lt-ltb, le-ltb, eq-eqb, ne-eqb, eqb-true, ltb-true, both-ways}
+use Rattle.std.proofs.shelf.Bits.{and-le-l}
 use Rattle.std.proofs.shelf.Ways.{same-from-decides}
 use Rattle.prefix.specs.Bits.{bit, bits}
 use Rattle.prefix.proofs.Masks.{and-bit, xor-bit, bit-mod-in, bit-mod-out, bit-past, bits-apart, length-bits, getD-bits}
@@ -15,14 +16,16 @@ use Rattle.sheet.specs.Rules.{fails, some, every, literalAt, literals}
 use Rattle.sheet.specs.declared.rule.Rule.{Rule}
 use Rattle.sheet.proofs.Named.{decides-every, decides-some}
 
--- A mask cut down to the first d positions.
-pub cut-bit : (m d first i : ℕ) → first ≡ 2 ^ min d 32 - 1 → d ≤ 24 → bit (bitAnd m first) i ≡ (ltb i d && bit m i)
+-- A mask of 32 bits cut down to the first d positions.
+pub cut-bit : (m d first i : ℕ) → first ≡ 2 ^ min d 32 - 1 → m < 2 ^ 32 → bit (bitAnd m first) i ≡ (ltb i d && bit m i)
 cut-bit m d first i e h =
-    let small : min d 32 ≡ d = omega arith in
-    let cut : bitAnd m first ≡ m % 2 ^ d = ap (bitAnd m) e ∙ and-mask m (min d 32) ∙ ap (λ (k : ℕ). m % 2 ^ k) small in
-    ap (λ (z : ℕ). bit z i) cut
-    ∙ ⊎-elim (λ (l : i < d). bit-mod-in m d i l ∙ sym (ap (λ (b : Bool). b && bit m i) (lt-ltb i d l)))
-    (λ (l : d ≤ i). bit-mod-out m d i l ∙ sym (and-left (ltb i d) (bit m i) (le-ltb i d l))) (cases-lt i d)
+    ap (λ (z : ℕ). bit z i) (ap (bitAnd m) e ∙ and-mask m (min d 32))
+    ∙ ⊎-elim
+    (λ (l : i < min d 32). let k : i < d = omega arith in bit-mod-in m (min d 32) i l ∙ sym (ap (λ (b : Bool). b && bit m i) (lt-ltb i d k)))
+    (λ (l : min d 32 ≤ i).
+    bit-mod-out m (min d 32) i l
+    ∙ ⊎-elim (λ (k : i < d). sym (and-right (ltb i d) (bit m i) (bit-past m 32 i h (omega arith)))) (λ (k : d ≤ i). sym (and-left (ltb i d) (bit m i) (le-ltb i d k))) (cases-lt i d))
+    (cases-lt i (min d 32))
 
 -- Whether a rule's literal fails, by the masks.
 fails-bit : (r : Rule) (d m i : ℕ) → fails (bits d m) (literalAt r i) ≡ (ltb i d && not (Bool·beq (bit m i) (bit (r .wanted) i)))
@@ -38,12 +41,12 @@ and-turn true a b = refl
 and-turn false true b = refl
 and-turn false false b = refl
 
-pub failing-bit : (r : Rule) (d m line first i : ℕ) → line ≡ m → first ≡ 2 ^ min d 32 - 1 → d ≤ 24
+pub failing-bit : (r : Rule) (d m line first i : ℕ) → line ≡ m → first ≡ 2 ^ min d 32 - 1 → r .named < 2 ^ 32
     → bit (bitAnd (bitAnd (r .named) (bitXor line (r .wanted))) first) i ≡ (bit (r .named) i && fails (bits d m) (literalAt r i))
 failing-bit r d m line first i same e h =
     let N = bit (r .named) i in
     let W = bit (r .wanted) i in
-    cut-bit (bitAnd (r .named) (bitXor line (r .wanted))) d first i e h
+    cut-bit (bitAnd (r .named) (bitXor line (r .wanted))) d first i e (omega (arith, and-le-l (r .named) (bitXor line (r .wanted))))
     ∙ ap (λ (b : Bool). ltb i d && b) (and-bit (r .named) (bitXor line (r .wanted)) i ∙ ap (λ (b : Bool). N && b) (xor-bit line (r .wanted) i))
     ∙ ap (λ (z : ℕ). ltb i d && (N && not (Bool·beq (bit z i) W))) same
     ∙ and-turn (ltb i d) N (not (Bool·beq (bit m i) W)) ∙ ap (λ (b : Bool). N && b) (sym (fails-bit r d m i))

@@ -3,13 +3,17 @@
 use mathlib.Core.Path.{_≡_, refl, sym, ap, _∙_}
 use mathlib.Core.List.{List, [], _∷_, _++_}
 use mathlib.Core.Bool.{Bool, true, false, not, _&&_, Bool·beq}
-use Prim.Native.Nat.{ℕ, zero, suc, _≤_}
+use Prim.Native.Nat.{ℕ, zero, suc, _≤_, min}
 use native.Mathlib.Omega.{arith}
 use lib.Dec.{leb}
 use lib.ListN.{length}
 use Rattle.std.specs.shelf.Lists.{All}
 use Rattle.std.proofs.shelf.Lists.{getD-append-left}
 use Rattle.std.proofs.shelf.Tests.{and-parts, and-right, not-true, le-leb, leb-true}
+use Rattle.prefix.specs.Bits.{bits}
+use Rattle.prefix.specs.Lines.{partLine}
+use Rattle.prefix.specs.declared.line.Line.{Line}
+use Rattle.prefix.specs.declared.prefix.Prefix.{Prefix}
 use Rattle.sheet.specs.Meaning.{Sound}
 use Rattle.sheet.specs.Rules.{literalAt, literals, valueAt, holds, fails, clausesKept, clausesBroken, termsKept, termsBroken}
 use Rattle.sheet.specs.declared.literal.Literal.{Literal}
@@ -59,3 +63,8 @@ terms-sound n rules = record {
   part = λ u rest _ h. every-excludes (someFails n u) (allHold n (u ++ rest))
       (λ r. some-excludes (fails u) (holds (u ++ rest)) (lost u rest) (literals r n)) rules h;
 }
+
+-- What a sheet answers for n positions, n the prefix's length, it answers at the part line.
+pub at-part : (broken : ℕ → List Rule → List Bool → Bool) (p : Prefix) (rules : List Rule) (d : ℕ) (line : Line) (n : ℕ) (answer : Bool) → n ≡ p .length
+    → broken n rules (bits (min d n) (line .mask)) ≡ answer → answer ≡ broken (p .length) rules (partLine p d line)
+at-part broken p rules d line n answer e h = sym h ∙ ap (λ (k : ℕ). broken k rules (bits (min d k) (line .mask))) e

@@ -41,22 +41,15 @@ pub impl<'a> Sheet for ClauseSheet<'a> as Clauses {
         self.prefix
     }
 
+    // Whether some rule has all its literals within the first `length`
+    // positions, and none of them holds.
     fn broken(&self, length: usize, line: Line) -> bool {
         let n = self.prefix.len();
-        some_broken(self.rules, n, length.min(n), line)
-    }
-}
-
-// Whether some rule has all its literals within the first `length` positions,
-// and none of them holds.
-fn some_broken(rules: &[Rule], n: usize, length: usize, line: Line) -> bool
-    requires { ⌜ length ≤ n ⌝ ∗ ⌜ n ≤ 24 ⌝ }
-    ensures { λ r. ⌜ r ≡ clausesBroken n (now (rules .entry)) (bits length (line .mask)) ⌝ }
-{
-    for rule in rules {
-        if rule.all_fail(n, length, line) {
-            return true;
+        for rule in self.rules {
+            if rule.all_fail(n, length, line) {
+                return true;
+            }
         }
+        false
     }
-    false
 }

@@ -1,5 +1,9 @@
 // Sheets: what a site's rules mean, for every way of keeping them, and the two
 // ways at hand, clauses (cnf) and terms (dnf).
+//
+//     let rules = [Rule::of(&[Literal::on(2), Literal::off(3)])?];
+//     let sheet = ClauseSheet::new(prefix, &rules);
+//     sheet.broken(2, line) // do the first two values break it already?
 pub mod clause;
 pub mod form;
 pub mod literal;

@@ -1,17 +1,16 @@
 // Rules: sets of literals that name no position twice, as two masks.
 ghost use mathlib.Core.Path.{_≡_};
 ghost use mathlib.Core.List.{[]};
-ghost use mathlib.Core.Bool.{_&&_};
-ghost use Prim.Native.Nat.{ℕ, _≤_};
 ghost use lib.ListN.{take};
 ghost use Rattle.std.specs.Options.{Cases};
-ghost use Rattle.prefix.specs.Bits.{bit, bits};
-ghost use Rattle.sheet.specs.Rules.{wantedAt, literalAt, literals, fails, some, every};
+ghost use Rattle.sheet.specs.Rules.{wantedAt};
 ghost use Rattle.sheet.specs.Literals.{Nameable, Joined, Distinct, Made};
+
+mod failing;
+
 use crate::literal::Literal;
 use prefix::Line;
 use prefix::Prefix;
-use prefix::first_positions;
 
 // Bit k - 1 of `named` is on where the rule has a literal at position k, and
 // then bit k - 1 of `wanted` is the value that it wants.
@@ -75,32 +74,6 @@ impl Rule {
             rule = more;
         }
         Some(rule)
-    }
-
-    // The mask of the literals within the first `length` positions that fail at
-    // a line.
-    fn failing(self, length: usize, line: Line) -> u32
-        requires { ⌜ length ≤ 24 ⌝ }
-        ensures { λ r. ⌜ ((i : ℕ) → bit r i ≡ (bit (self .named) i && fails (bits length (line .mask)) (literalAt self i))) ⌝ }
-    {
-        self.named & (line.mask() ^ self.wanted) & first_positions(length)
-    }
-
-    // Whether all literals of the rule within n positions fail within the first
-    // `length` values of a line.
-    pub(crate) fn all_fail(self, n: usize, length: usize, line: Line) -> bool
-        requires { ⌜ length ≤ n ⌝ ∗ ⌜ n ≤ 24 ⌝ }
-        ensures { λ r. ⌜ r ≡ every (literals self n) (fails (bits length (line .mask))) ⌝ }
-    {
-        self.failing(length, line) == self.named & first_positions(n)
-    }
-
-    // Whether some literal of the rule within n positions does.
-    pub(crate) fn any_fails(self, n: usize, length: usize, line: Line) -> bool
-        requires { ⌜ length ≤ n ⌝ ∗ ⌜ n ≤ 24 ⌝ }
-        ensures { λ r. ⌜ r ≡ some (literals self n) (fails (bits length (line .mask))) ⌝ }
-    {
-        self.failing(length, line) != 0
     }
 }
 

@@ -41,21 +41,15 @@ pub impl<'a> Sheet for TermSheet<'a> as Terms {
         self.prefix
     }
 
+    // Whether every rule has a literal within the first `length` positions that
+    // fails.
     fn broken(&self, length: usize, line: Line) -> bool {
         let n = self.prefix.len();
-        each_broken(self.rules, n, length.min(n), line)
-    }
-}
-
-// Whether every rule has a literal within the first `length` positions that fails.
-fn each_broken(rules: &[Rule], n: usize, length: usize, line: Line) -> bool
-    requires { ⌜ length ≤ n ⌝ ∗ ⌜ n ≤ 24 ⌝ }
-    ensures { λ r. ⌜ r ≡ termsBroken n (now (rules .entry)) (bits length (line .mask)) ⌝ }
-{
-    for rule in rules {
-        if !rule.any_fails(n, length, line) {
-            return false;
+        for rule in self.rules {
+            if !rule.any_fails(n, length, line) {
+                return false;
+            }
         }
+        true
     }
-    true
 }

@@ -61,20 +61,19 @@ module _ {W : Type 0} (j : Joins W) (kept : List Bool → Bool) where
         ap (λ (z : ℕ). worth j kept (drop z ks) u) h ∙ worth-end ks u
         ∙ ap (λ (k : Bool). cond k (j .won) (j .lost)) (not-false (kept u) (sym (sound .whole u (e ∙ h)) ∙ b))
 
--- The same, as the walk meets it: by what `broken` answered of a sheet whose prefix is p.
-module _ {W : Type 0} (j : Joins W) (kept broken : List Bool → Bool) (p q : Prefix) (same : p ≡ q) (sound : Sound (q .length) kept broken)
-    (d line : ℕ) (within : d ≤ length (kinds p)) where
-  long : length (kinds p) ≡ q .length
-  long = length-kinds (p .length) (p .reports) ∙ ap (λ (x : Prefix). x .length) same
+-- The same, by what `broken` answers of a sheet of prefix p.
+module _ {W : Type 0} (j : Joins W) (kept broken : List Bool → Bool) (p : Prefix) (sound : Sound (p .length) kept broken) (d line : ℕ) (within : d ≤ p .length) where
+  long : length (kinds p) ≡ p .length
+  long = length-kinds (p .length) (p .reports)
 
   sound-kinds : Sound (length (kinds p)) kept broken
   sound-kinds = subst (λ (n : ℕ). Sound n kept broken) (sym long) sound
 
-  asked : broken (bits (min d (q .length)) line) ≡ broken (bits d line)
-  asked = let l = long in let e : min d (q .length) ≡ d = omega arith in ap (λ (k : ℕ). broken (bits k line)) e
+  asked : broken (bits (min d (p .length)) line) ≡ broken (bits d line)
+  asked = let e : min d (p .length) ≡ d = omega arith in ap (λ (k : ℕ). broken (bits k line)) e
 
-  pub answer-lost : Lawful j → true ≡ broken (bits (min d (q .length)) line) → j .lost ≡ worth j kept (drop d (kinds p)) (bits d line)
-  answer-lost l b = sym (broken-lost j kept (kinds p) broken sound-kinds l d (bits d line) (length-bits d line) within (sym asked ∙ sym b))
+  pub answer-lost : Lawful j → true ≡ broken (bits (min d (p .length)) line) → j .lost ≡ worth j kept (drop d (kinds p)) (bits d line)
+  answer-lost l b = sym (broken-lost j kept (kinds p) broken sound-kinds l d (bits d line) (length-bits d line) (let n = long in omega arith) (sym asked ∙ sym b))
 
-  pub answer-won : false ≡ broken (bits (min d (q .length)) line) → d ≡ p .length → j .won ≡ worth j kept (drop d (kinds p)) (bits d line)
-  answer-won b end = sym (whole-won j kept (kinds p) broken sound-kinds d (bits d line) (length-bits d line) (end ∙ sym (length-kinds (p .length) (p .reports))) (sym asked ∙ sym b))
+  pub answer-won : false ≡ broken (bits (min d (p .length)) line) → d ≡ p .length → j .won ≡ worth j kept (drop d (kinds p)) (bits d line)
+  answer-won b end = sym (whole-won j kept (kinds p) broken sound-kinds d (bits d line) (length-bits d line) (end ∙ sym long) (sym asked ∙ sym b))

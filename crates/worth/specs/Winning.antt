@@ -30,9 +30,10 @@ WinnableFrom kept p d l = Winnable kept (kindsAfter p d) (partLine p d l)
 abbrev pub YesMeansWinnable : Type 0
 YesMeansWinnable = (kept : List Bool → Bool) (ks : List Kind) (u : List Bool) → (worth yesNo kept ks u ≡ true) ↔ Winnable kept ks u
 
--- What a call that asks a sheet of prefix p whether W, that some policy wins, gives, and what it makes of the cells.
+-- What a call that asks a sheet of prefix p whether some policy wins gives: yes exactly when the claim that one does holds.
+-- The cells are left as by a call for a worth.
 abbrev pub Told : Type 0 → Prefix → List Bool → List Bool → Result Bool WorthFault → Type 0
-Told W p before after r =
+Told Claim p before after r =
     Cases r
-    (λ won. (p .length ≤ length before) × ((won ≡ true) ↔ W) × AllLost yesNo after)
+    (λ won. (p .length ≤ length before) × ((won ≡ true) ↔ Claim) × AllLost yesNo after)
     (λ fault. (length before < p .length) × (refusal fault ≡ 14) × (after ≡ before))

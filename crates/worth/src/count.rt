@@ -4,7 +4,7 @@ use crate::policy_count::PolicyCount;
 use crate::policy_count::PolicyCountPartialEq;
 use crate::scale::Scale;
 
-pub struct Count {}
+pub struct Count;
 
 pub impl Scale for Count as CountScale {
     type Worth = PolicyCount;

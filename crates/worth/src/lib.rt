@@ -1,11 +1,15 @@
 // What a part line is worth to the box, on any scale: whether some policy wins
 // from there, how many do. One walk serves every scale and every kind of sheet.
+//
+//     let mut stack = WorthStack::new(&mut cells); // as many as positions
+//     stack.worth::<Count, ClauseSheet>(&sheet)?
 pub mod count;
 pub mod counting;
 pub mod fault;
 pub mod policy_count;
 pub mod scale;
 pub mod stack;
+mod tree;
 pub mod walk;
 pub mod winning;
 pub mod yes_no;

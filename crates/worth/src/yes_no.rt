@@ -2,7 +2,7 @@
 ghost use Rattle.worth.specs.Scales.{yesNo};
 use crate::scale::Scale;
 
-pub struct YesNo {}
+pub struct YesNo;
 
 pub impl Scale for YesNo as YesNoScale {
     type Worth = bool;

@@ -15,10 +15,9 @@ use Rattle.prefix.proofs.Masks.{value-inside, changed-here, changed-before}
 use Rattle.prefix.proofs.Positions.{length-kinds}
 use Rattle.worth.specs.Scales.{joined}
 use Rattle.worth.specs.Worth.{worth}
-use Rattle.worth.proofs.Branches.{answer-lost, answer-won}
 use Rattle.worth.proofs.Turns.{second, fewer-known, fewer-down, fewer-up, fewer-over}
 use Rattle.worth.proofs.Holding.{holds-start, holds-known, holds-down, holds-up, holds-cut, holds-over, holds-end}
-use Rattle.worth.proofs.walk.walk_from.Needs as need
+use Rattle.worth.proofs.tree.walk_from.Needs as need
 
 -- Which branch a line is in, from what the code asks at position d.
 branch : (ks : List Kind) (line d k : ℕ) (value report : Bool) (b : Bool) → d ≡ suc k → value ≡ maskValue line d → report ≡ isReport ks d → Bool·beq value report ≡ b → second ks line k ≡ b
@@ -31,26 +30,13 @@ loop-known-holds g c =
     let within : c .args .start ≤ p .length = subst (λ (q : Prefix). c .args .start ≤ q .length) (sym (c .prefix-prefix .ensures)) (c .pre .within) in
     holds-start _ _ _ _ _ _ _ _ (omega (arith, length-kinds (p .length) (p .reports))) refl
 
-pub loop-known-less-then-broken : need.loop-known-less-then-broken
-loop-known-less-then-broken g c = fewer-known _ _ _ _ (c .if-not-known .taken)
+pub loop-known-less-in-Some : need.loop-known-less-in-Some
+loop-known-less-in-Some g c = fewer-known _ _ _ _ (c .if-not-known .taken)
 
-pub loop-known-again-then-broken : need.loop-known-again-then-broken
-loop-known-again-then-broken g c =
-    let told = c .if-broken .ensures tt in
-    holds-known _ _ _ _ _ _ _ _ _ _ (c .loop-known .inv) (c .lost-worth-worth-then-broken .result) (c .if-not-known .taken)
-    (c .lost-worth-worth-then-broken .ensures
-    ∙ answer-lost (g .S·Scale .joins) _ _ (c .prefix-prefix .result) _ (c .prefix-prefix .ensures) (told .sound) (c .loop-known .length) (c .loop-known .line .mask) (c .loop-known .inv .within) (g .S·Scale·met .lawful) (told .answer))
-
-pub loop-known-less-then-length-n : need.loop-known-less-then-length-n
-loop-known-less-then-length-n g c = fewer-known _ _ _ _ (c .if-not-known .taken)
-
-pub loop-known-again-then-length-n : need.loop-known-again-then-length-n
-loop-known-again-then-length-n g c =
-    let told = c .if-broken .ensures tt in
-    holds-known _ _ _ _ _ _ _ _ _ _ (c .loop-known .inv) (c .won-worth-worth .result) (c .if-not-known .taken)
-    (c .won-worth-worth .ensures
-    ∙ answer-won (g .S·Scale .joins) _ _ (c .prefix-prefix .result) _ (c .prefix-prefix .ensures) (told .sound) (c .loop-known .length) (c .loop-known .line .mask) (c .loop-known .inv .within) (told .answer)
-    (c .if-length-n .taken ∙ c .len-n .ensures .value))
+pub loop-known-again-in-Some : need.loop-known-again-in-Some
+loop-known-again-in-Some g c =
+    holds-known _ _ _ _ _ _ _ _ _ _ (c .loop-known .inv) (c .in-Some .leaf) (c .if-not-known .taken)
+    (c .in-Some .ensures tt ∙ ap (λ (q : Prefix). worth (g .S·Scale .joins) (g .F·Sheet .kept (c .args .sheet .now)) (drop (c .loop-known .length) (kinds q)) (bits (c .loop-known .length) (c .loop-known .line .mask))) (sym (c .prefix-prefix .ensures)))
 
 pub loop-known-less-then-not-known : need.loop-known-less-then-not-known
 loop-known-less-then-not-known g c =
@@ -59,7 +45,7 @@ loop-known-less-then-not-known g c =
     let line = c .loop-known .line .mask in
     let to = c .with-line .result .mask in
     let next = add-one d in
-    let inside : d < length (kinds p) = omega (arith, c .loop-known .inv .within, length-kinds (p .length) (p .reports), c .len-n .ensures .value) in
+    let inside : d < length (kinds p) = omega (arith, c .loop-known .inv .within, length-kinds (p .length) (p .reports), c .len-n .ensures .value, c .in-rest .ensures tt) in
     fewer-down (kinds p) d line to _ (c .if-not-known .taken) inside
     (changed-here line (d + 1) d to _ (c .with-line .ensures) next (omega (arith, length-kinds (p .length) (p .reports))) ∙ ap not (c .is-report .ensures ∙ ap (isReport (kinds p)) next))
     (changed-before line (d + 1) d to _ (c .with-line .ensures) next)
@@ -71,7 +57,7 @@ loop-known-again-then-not-known g c =
     let line = c .loop-known .line .mask in
     let to = c .with-line .result .mask in
     let next = add-one d in
-    let inside : d < length (kinds p) = omega (arith, c .loop-known .inv .within, length-kinds (p .length) (p .reports), c .len-n .ensures .value) in
+    let inside : d < length (kinds p) = omega (arith, c .loop-known .inv .within, length-kinds (p .length) (p .reports), c .len-n .ensures .value, c .in-rest .ensures tt) in
     holds-down _ _ _ _ _ _ _ _ _ _ (c .loop-known .inv) to (c .if-not-known .taken) inside
     (changed-here line (d + 1) d to _ (c .with-line .ensures) next (omega (arith, length-kinds (p .length) (p .reports))) ∙ ap not (c .is-report .ensures ∙ ap (isReport (kinds p)) next))
     (changed-before line (d + 1) d to _ (c .with-line .ensures) next)

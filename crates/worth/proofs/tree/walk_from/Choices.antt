@@ -3,7 +3,7 @@ use Rattle.prefix.specs.Prefixes.{kinds}
 use Rattle.worth.proofs.Climb.{deep}
 use Rattle.worth.proofs.Turns.{left}
 use Rattle.worth.proofs.Holding.{Holds}
-use Rattle.worth.proofs.walk.walk_from.Given as given
+use Rattle.worth.proofs.tree.walk_from.Given as given
 
 abbrev pub Inv-loop-known : given.InvT-loop-known
 Inv-loop-known g l =
