@@ -1,13 +1,13 @@
 -- A policy's line on a setting, and that it is the only one of its make.
-use mathlib.Core.Path.{_≡_, refl, sym, ap, subst, _∙_}
+use mathlib.Core.Path.{_≡_, refl, ap, _∙_}
 use mathlib.Core.List.{List, [], _∷_}
-use mathlib.Core.Bool.{Bool, true, false}
+use mathlib.Core.Bool.{Bool, false}
 use Prim.Native.Nat.{ℕ, zero, suc}
 use native.Mathlib.Omega.{arith}
 use lib.ListN.{length, take, getD}
 use Rattle.std.specs.declared.option.Option.{Option}
 use Rattle.std.specs.declared.option.Option.the-variants.{Some, None}
-use Rattle.prefix.specs.Kinds.{kindAt, reportCount, reportValues}
+use Rattle.prefix.specs.Kinds.{kindAt, reportValues}
 use Rattle.prefix.specs.Settings.{Setting}
 use Rattle.prefix.specs.Policies.{Policy, afterReply, afterReport, line, Plays, OneLine}
 use Rattle.prefix.specs.declared.kind.Kind.{Kind}

@@ -1,17 +1,17 @@
 -- Masks bit by bit, and as lists of values.
 use mathlib.Core.Path.{_≡_, refl, sym, ap, subst, _∙_}
-use mathlib.Core.List.{List, [], _∷_, _++_}
+use mathlib.Core.List.{[], _∷_, _++_}
 use mathlib.Core.Bool.{Bool, true, false, not, _&&_, Bool·beq}
 use mathlib.Core.Logic.{_⊎_, ⊎-elim}
 use Prim.Native.Nat.{ℕ, zero, suc, _+_, _-_, _*_, _/_, _%_, _^_, _<_, _≤_, min, differ}
-use native.Mathlib.Nat.{pow-suc, one-mul, div-one, zero-mul}
+use native.Mathlib.Nat.{pow-suc, one-mul, div-one}
 use native.Mathlib.Numerals.{add-one, one-add}
 use native.Mathlib.Omega.{arith}
 use lib.Dec.{eqb}
 use lib.Bits.{bitAnd, bitXor, and-step, xor-step, and-shr, xor-shr}
 use lib.ListN.{length, getD}
 use lib.Pow.{pow-mono}
-use Rattle.std.proofs.shelf.Bits.{pow-pos, pow-add, shl-shr, shr-shr, shr-split, mod-below, field-of, mod-pow-add, shr-below, one-shl}
+use Rattle.std.proofs.shelf.Bits.{pow-pos, pow-add, shl-shr, shr-shr, mod-below, field-of, mod-pow-add, shr-below}
 use Rattle.std.proofs.shelf.Tests.{true≢false, cases-lt, cases-order}
 use Rattle.prefix.specs.Bits.{odd, bit, bits, maskValue, Changed}
 

@@ -1,5 +1,5 @@
 -- The kinds of a prefix against its mask.
-use mathlib.Core.Path.{_≡_, refl, sym, ap, subst, _∙_}
+use mathlib.Core.Path.{_≡_, refl, sym, ap, _∙_}
 use mathlib.Core.List.{List, [], _∷_}
 use mathlib.Core.Bool.{Bool, true, false, not}
 use mathlib.Core.Logic.{_⊎_, ⊎-elim}
@@ -14,9 +14,8 @@ use lib.Pow.{pow-mono}
 use Rattle.std.proofs.shelf.Bits.{pow-pos, mod-pow-add}
 use Rattle.std.proofs.shelf.Lists.{take-all}
 use Rattle.std.proofs.shelf.Tests.{cases-lt}
-use Rattle.std.specs.declared.option.Option.{Option}
 use Rattle.std.specs.declared.option.Option.the-variants.{Some, None}
-use Rattle.prefix.specs.Bits.{odd, bit, maskValue}
+use Rattle.prefix.specs.Bits.{bit, maskValue}
 use Rattle.prefix.specs.Kinds.{kindAt, someReport, someReply, isReport, isReply, reportCount, reportsBefore}
 use Rattle.prefix.specs.Prefixes.{kindOf, kindsOf}
 use Rattle.prefix.specs.declared.kind.Kind.{Kind}

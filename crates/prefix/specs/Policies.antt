@@ -2,7 +2,7 @@
 use mathlib.Core.Path.{_≡_}
 use mathlib.Core.List.{List, [], _∷_, _++_}
 use mathlib.Core.Bool.{Bool, true, false}
-use Prim.Native.Nat.{ℕ, zero, suc}
+use Prim.Native.Nat.{ℕ, suc}
 use lib.ListN.{length, take, getD}
 use Rattle.std.specs.declared.option.Option.the-variants.{Some}
 use Rattle.prefix.specs.Kinds.{kindAt, reportValues}

@@ -1,9 +1,7 @@
 // Clause sheets (cnf): every rule has to have a literal that holds.
 ghost use mathlib.Core.Path.{_≡_};
-ghost use Prim.Native.Nat.{_≤_};
 ghost use lib.ListN.{take};
 ghost use denote.Ref.{now};
-ghost use Rattle.prefix.specs.Bits.{bits};
 ghost use Rattle.sheet.specs.Rules.{clausesKept, clausesBroken};
 use crate::rule::Rule;
 use crate::rule::counted;

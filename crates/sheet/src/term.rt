@@ -1,9 +1,7 @@
 // Term sheets (dnf): some rule has to have all its literals holding.
 ghost use mathlib.Core.Path.{_≡_};
-ghost use Prim.Native.Nat.{_≤_};
 ghost use lib.ListN.{take};
 ghost use denote.Ref.{now};
-ghost use Rattle.prefix.specs.Bits.{bits};
 ghost use Rattle.sheet.specs.Rules.{termsKept, termsBroken};
 use crate::rule::Rule;
 use crate::rule::counted;

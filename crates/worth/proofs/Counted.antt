@@ -1,6 +1,6 @@
 -- Counts are equal where their numbers are, and the count scale is lawful.
-use mathlib.Core.Path.{_≡_, refl, sym, ap, subst, _∙_}
-use Prim.Native.Nat.{ℕ, _+_, _*_, _≤_, min}
+use mathlib.Core.Path.{_≡_, ap, subst}
+use Prim.Native.Nat.{ℕ, _+_, _*_, _≤_}
 use native.Mathlib.Bridge.{le-prop}
 use native.Mathlib.Nat.{zero-mul, mul-zero}
 use native.Mathlib.Omega.{arith}

@@ -1,12 +1,11 @@
 -- The yes-no worth of a part line is yes exactly when some policy wins from there.
 use mathlib.Core.Path.{_≡_, refl, sym, ap, _∙_}
 use mathlib.Core.List.{List, [], _∷_, _++_, append-nil, append-assoc}
-use mathlib.Core.Bool.{Bool, true, false, cond, _&&_, _||_}
+use mathlib.Core.Bool.{Bool, true, false, cond, _||_}
 use Prim.Native.Nat.{ℕ, zero, suc}
 use Rattle.std.specs.declared.result.Result.{Result}
 use Rattle.std.specs.declared.result.Result.the-variants.{Ok, Err}
 use native.Mathlib.Omega.{arith}
-use lib.ListN.{length}
 use Rattle.std.proofs.shelf.Tests.{and-parts, and-from, or-left, or-right}
 use Rattle.prefix.specs.Policies.{Policy, afterReply, afterReport, line, WinsFrom, Winnable}
 use Rattle.prefix.specs.declared.kind.Kind.{Kind}

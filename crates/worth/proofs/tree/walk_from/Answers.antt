@@ -4,9 +4,9 @@ use mathlib.Core.List.{List}
 use Prim.Native.Nat.{ℕ, suc, _+_, _-_, _<_, _≤_}
 use native.Mathlib.Numerals.{add-one}
 use native.Mathlib.Omega.{arith}
-use lib.ListN.{length, getD, drop}
+use lib.ListN.{length, drop}
 use Rattle.std.proofs.shelf.Lists.{getD-read}
-use Rattle.prefix.specs.Bits.{bit, bits, maskValue}
+use Rattle.prefix.specs.Bits.{bits, maskValue}
 use Rattle.prefix.specs.Kinds.{isReport}
 use Rattle.prefix.specs.Prefixes.{kinds}
 use Rattle.prefix.specs.declared.kind.Kind.{Kind}

@@ -1,9 +1,7 @@
-use mathlib.Core.Path.{_≡_, ap, subst, _∙_}
-use mathlib.Core.Bool.{Bool}
+use mathlib.Core.Path.{ap, _∙_}
 use Prim.Native.Nat.{ℕ, min}
 use native.Mathlib.Omega.{arith}
 use lib.Bits.{bitAnd}
-use lib.Dec.{eqb}
 use Rattle.std.proofs.shelf.Bits.{and-le-l}
 use Rattle.prefix.specs.Bits.{bits}
 use Rattle.sheet.specs.Rules.{every, literals, fails}
