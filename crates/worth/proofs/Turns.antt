@@ -45,6 +45,18 @@ second-not false = refl
 abbrev pub SameTo : ℕ → ℕ → ℕ → Type 0
 SameTo d a b = (i : ℕ) → i < d → bit a i ≡ bit b i
 
+-- One step down from length d: the line `to` has the first value at the next position.
+pub record Down (ks : List Kind) (d line to : ℕ) : Type 0 where
+  pub inside : d < length ks
+  pub first : bit to d ≡ not (isReport ks (suc d))
+  pub before : SameTo d to line
+
+-- Over from the first branch at position k + 1: the line `to` has the second value there.
+pub record Over (ks : List Kind) (k line to : ℕ) : Type 0 where
+  pub was : second ks line k ≡ false
+  pub second : bit to k ≡ isReport ks (suc k)
+  pub before : SameTo k to line
+
 module _ (ks : List Kind) where
   cost-same : (d a b : ℕ) → SameTo d a b → cost ks d a ≡ cost ks d b
   unfolding cost

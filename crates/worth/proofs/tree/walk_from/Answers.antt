@@ -15,8 +15,9 @@ use Rattle.prefix.proofs.Masks.{value-inside, changed-here, changed-before}
 use Rattle.prefix.proofs.Positions.{length-kinds}
 use Rattle.worth.specs.Scales.{joined}
 use Rattle.worth.specs.Worth.{worth}
-use Rattle.worth.proofs.Turns.{second, fewer-known, fewer-down, fewer-up, fewer-over}
+use Rattle.worth.proofs.Turns.{second, Down, Over, fewer-known, fewer-down, fewer-up, fewer-over}
 use Rattle.worth.proofs.Holding.{holds-start, holds-known, holds-down, holds-up, holds-cut, holds-over, holds-end}
+use Rattle.worth.proofs.tree.walk_from.Given as given
 use Rattle.worth.proofs.tree.walk_from.Needs as need
 
 -- Which branch a line is in, from what the code asks at position d.
@@ -38,29 +39,27 @@ loop-known-again-in-Some g c =
     holds-known _ _ _ _ _ _ _ _ _ _ (c .loop-known .inv) (c .in-Some .leaf) (c .if-not-known .taken)
     (c .in-Some .ensures tt ∙ ap (λ (q : Prefix). worth (g .S·Scale .joins) (g .F·Sheet .kept (c .args .sheet .now)) (drop (c .loop-known .length) (kinds q)) (bits (c .loop-known .length) (c .loop-known .line .mask))) (sym (c .prefix-prefix .ensures)))
 
-pub loop-known-less-then-not-known : need.loop-known-less-then-not-known
-loop-known-less-then-not-known g c =
+-- Going down: there is a next position, and the line has the first value there.
+down : (g : given.Over) (c : need.After-with-line g) → Down (kinds (c .prefix-prefix .result)) (c .loop-known .length) (c .loop-known .line .mask) (c .with-line .result .mask)
+down g c =
     let p = c .prefix-prefix .result in
     let d = c .loop-known .length in
     let line = c .loop-known .line .mask in
     let to = c .with-line .result .mask in
     let next = add-one d in
-    let inside : d < length (kinds p) = omega (arith, c .loop-known .inv .within, length-kinds (p .length) (p .reports), c .len-n .ensures .value, c .in-rest .ensures tt) in
-    fewer-down (kinds p) d line to _ (c .if-not-known .taken) inside
-    (changed-here line (d + 1) d to _ (c .with-line .ensures) next (omega (arith, length-kinds (p .length) (p .reports))) ∙ ap not (c .is-report .ensures ∙ ap (isReport (kinds p)) next))
-    (changed-before line (d + 1) d to _ (c .with-line .ensures) next)
+    let long = length-kinds (p .length) (p .reports) in
+    record {
+      inside = omega (arith, c .loop-known .inv .within, c .len-n .ensures .value, c .in-rest .ensures tt);
+      first = changed-here line (d + 1) d to _ (c .with-line .ensures) next (omega (arith, c .len-n .ensures .few, c .in-rest .ensures tt)) ∙ ap not (c .is-report .ensures ∙ ap (isReport (kinds p)) next);
+      before = changed-before line (d + 1) d to _ (c .with-line .ensures) next;
+    }
+
+pub loop-known-less-then-not-known : need.loop-known-less-then-not-known
+loop-known-less-then-not-known g c = let s = down g c in fewer-down _ _ _ _ _ (c .if-not-known .taken) (s .inside) (s .first) (s .before)
 
 pub loop-known-again-then-not-known : need.loop-known-again-then-not-known
 loop-known-again-then-not-known g c =
-    let p = c .prefix-prefix .result in
-    let d = c .loop-known .length in
-    let line = c .loop-known .line .mask in
-    let to = c .with-line .result .mask in
-    let next = add-one d in
-    let inside : d < length (kinds p) = omega (arith, c .loop-known .inv .within, length-kinds (p .length) (p .reports), c .len-n .ensures .value, c .in-rest .ensures tt) in
-    holds-down _ _ _ _ _ _ _ _ _ _ (c .loop-known .inv) to (c .if-not-known .taken) inside
-    (changed-here line (d + 1) d to _ (c .with-line .ensures) next (omega (arith, length-kinds (p .length) (p .reports))) ∙ ap not (c .is-report .ensures ∙ ap (isReport (kinds p)) next))
-    (changed-before line (d + 1) d to _ (c .with-line .ensures) next)
+    let s = down g c in holds-down _ _ _ _ _ _ _ _ _ _ (c .loop-known .inv) _ (c .if-not-known .taken) (s .inside) (s .first) (s .before)
 
 pub loop-known-less-then-value-report : need.loop-known-less-then-value-report
 loop-known-less-then-value-report g c =
@@ -98,33 +97,35 @@ loop-known-again-then-is-settled g c =
     (branch _ _ d (d - 1) _ _ false e (c .value .ensures) (c .is-report-report .ensures) (c .if-value-report .left))
     (λ y. ap (λ (q : Bool). joined j q (c .loop-known .worth) y) (sym report) ∙ c .is-settled .ensures (c .if-is-settled .taken) y)
 
-pub loop-known-less : need.loop-known-less
-loop-known-less g c =
+-- Going over: the line was in the first branch and has the second value now.
+over : (g : given.Over) (c : need.After-with-line-in-loop-known g) → Over (kinds (c .prefix-prefix .result)) (c .loop-known .length - 1) (c .loop-known .line .mask) (c .with-line-in-loop-known .result .mask)
+over g c =
     let p = c .prefix-prefix .result in
     let d = c .loop-known .length in
     let line = c .loop-known .line .mask in
     let to = c .with-line-in-loop-known .result .mask in
     let e : d ≡ suc (d - 1) = omega arith in
     let few : d - 1 < 32 = omega (arith, c .loop-known .inv .within, length-kinds (p .length) (p .reports)) in
-    fewer-over (kinds p) d (d - 1) line to _ (c .if-not-known .left) e
-    (branch _ _ d (d - 1) _ _ false e (c .value .ensures) (c .is-report-report .ensures) (c .if-value-report .left))
-    (changed-here line d (d - 1) to _ (c .with-line-in-loop-known .ensures) e few ∙ c .is-report-report .ensures ∙ ap (isReport (kinds p)) e)
-    (changed-before line d (d - 1) to _ (c .with-line-in-loop-known .ensures) e)
+    record {
+      was = branch _ _ d (d - 1) _ _ false e (c .value .ensures) (c .is-report-report .ensures) (c .if-value-report .left);
+      second = changed-here line d (d - 1) to _ (c .with-line-in-loop-known .ensures) e few ∙ c .is-report-report .ensures ∙ ap (isReport (kinds p)) e;
+      before = changed-before line d (d - 1) to _ (c .with-line-in-loop-known .ensures) e;
+    }
+
+pub loop-known-less : need.loop-known-less
+loop-known-less g c =
+    let s = over g c in
+    let e : c .loop-known .length ≡ suc (c .loop-known .length - 1) = omega arith in
+    fewer-over _ _ _ _ _ _ (c .if-not-known .left) e (s .was) (s .second) (s .before)
 
 pub loop-known-again : need.loop-known-again
 loop-known-again g c =
     let p = c .prefix-prefix .result in
-    let d = c .loop-known .length in
-    let line = c .loop-known .line .mask in
-    let to = c .with-line-in-loop-known .result .mask in
-    let e : d ≡ suc (d - 1) = omega arith in
-    let few : d - 1 < 32 = omega (arith, c .loop-known .inv .within, length-kinds (p .length) (p .reports)) in
+    let s = over g c in
+    let e : c .loop-known .length ≡ suc (c .loop-known .length - 1) = omega arith in
     let room : p .length ≤ length (c .args .cells .now) = subst (λ (q : Prefix). q .length ≤ length (c .args .cells .now)) (sym (c .prefix-prefix .ensures)) (c .pre .cells) in
-    holds-over _ _ _ _ _ _ _ _ _ _ (c .loop-known .inv) (d - 1) e (c .if-length-start .left) to (c .if-not-known .left)
-    (omega (arith, c .loop-known .inv .within, length-kinds (p .length) (p .reports), c .loop-known .kept .cells))
-    (branch _ _ d (d - 1) _ _ false e (c .value .ensures) (c .is-report-report .ensures) (c .if-value-report .left))
-    (changed-here line d (d - 1) to _ (c .with-line-in-loop-known .ensures) e few ∙ c .is-report-report .ensures ∙ ap (isReport (kinds p)) e)
-    (changed-before line d (d - 1) to _ (c .with-line-in-loop-known .ensures) e)
+    holds-over _ _ _ _ _ _ _ _ _ _ (c .loop-known .inv) _ e (c .if-length-start .left) _ (c .if-not-known .left)
+    (omega (arith, c .loop-known .inv .within, length-kinds (p .length) (p .reports), c .loop-known .kept .cells)) (s .was) (s .second) (s .before)
 
 pub returns : need.returns
 returns g c =
