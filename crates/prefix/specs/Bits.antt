@@ -5,6 +5,7 @@ use mathlib.Core.Bool.{Bool, false}
 use Prim.Native.Nat.{ℕ, zero, suc, _/_, _%_, _^_, _≤_}
 use lib.Dec.{eqb}
 
+-- Whether a number is odd, which is a mask's value at position 1.
 abbrev pub odd : ℕ → Bool
 odd m = eqb (m % 2) 1
 

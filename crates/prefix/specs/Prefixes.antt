@@ -7,14 +7,16 @@ use Rattle.prefix.specs.declared.kind.Kind.{Kind}
 use Rattle.prefix.specs.declared.kind.Kind.the-variants.{Report, Reply}
 use Rattle.prefix.specs.declared.prefix.Prefix.{Prefix}
 
+-- The kind of a position, by whether the mask of reports is on there.
 abbrev pub kindOf : Bool → Kind
 kindOf true = Report
 kindOf false = Reply
 
--- n kinds by a mask: a report where the mask is on.
+-- The kinds of the positions 1 to n, by the mask of reports.
 abbrev pub kindsOf : ℕ → ℕ → List Kind
 kindsOf zero m = []
 kindsOf (suc n) m = kindOf (odd m) ∷ kindsOf n (m / 2)
 
+-- The kinds of a prefix.
 abbrev pub kinds : Prefix → List Kind
 kinds p = kindsOf (p .length) (p .reports)

@@ -11,6 +11,7 @@ use Rattle.sheet.specs.Rules.{wantedAt}
 use Rattle.sheet.specs.declared.literal.Literal.{Literal}
 use Rattle.sheet.specs.declared.rule.Rule.{Rule}
 
+-- The literal stands at a position that a prefix can have.
 abbrev pub InRange : Literal → Type 0
 InRange l = (1 ≤ l .position) × (l .position ≤ 24)
 
@@ -18,7 +19,7 @@ InRange l = (1 ≤ l .position) × (l .position ≤ 24)
 abbrev pub Nameable : Rule → Literal → Type 0
 Nameable r l = InRange l × (wantedAt r (l .position) ≡ None)
 
--- A rule keeps no value where it names no position, so that rules with the same literals are the same rule.
+-- A rule keeps no value where it names no position, so that its literals fix both of its masks.
 abbrev pub Tidy : Rule → Type 0
 Tidy r = (k : ℕ) → wantedAt r k ≡ None → maskValue (r .wanted) k ≡ false
 

@@ -12,6 +12,7 @@ use Rattle.sheet.specs.declared.form.Form.the-variants.{Cnf, Dnf}
 use Rattle.sheet.specs.declared.literal.Literal.{Literal}
 use Rattle.sheet.specs.declared.rule.Rule.{Rule}
 
+-- Some element of a list, or every one, passes a test.
 abbrev pub some : {A : Type 0} → List A → (A → Bool) → Bool
 some [] p = false
 some (x ∷ xs) p = p x || some xs p
@@ -34,7 +35,7 @@ abbrev pub literals : Rule → ℕ → List Literal
 literals r zero = []
 literals r (suc i) = cond (bit (r .named) i) (literalAt r i ∷ literals r i) (literals r i)
 
--- The value at a position.
+-- The value of a part line at a position; off where it has none.
 abbrev pub valueAt : List Bool → ℕ → Bool
 valueAt u zero = false
 valueAt u (suc i) = getD u i false

@@ -2,7 +2,7 @@
 use mathlib.Core.Path.{_≡_}
 use mathlib.Core.Bool.{Bool, true, false, _&&_, _||_}
 
--- What a scale joins worths by.
+-- A scale's worths of a kept and of a broken line, and its two joinings.
 pub record Joins (W : Type 0) : Type 0 where
   pub won : W
   pub lost : W
@@ -21,5 +21,6 @@ abbrev pub joined : {W : Type 0} → Joins W → Bool → W → W → W
 joined j true a b = j .both a b
 joined j false a b = j .either a b
 
+-- The yes-no scale.
 abbrev pub yesNo : Joins Bool
 yesNo = record { won = true; lost = false; either = _||_; both = _&&_ }
