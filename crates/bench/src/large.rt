@@ -7,7 +7,7 @@ use std::alloc::AllocError;
 use std::alloc::Global;
 
 #[derive(Clone, Copy)]
-pub enum Large {
+pub(crate) enum Large {
     Interleaved,
     ReportsLast,
     RepliesOnly,
@@ -16,7 +16,7 @@ pub enum Large {
 }
 
 impl Large {
-    pub const ALL: [Large; 5] = [
+    pub(crate) const ALL: [Large; 5] = [
         Large::Interleaved,
         Large::ReportsLast,
         Large::RepliesOnly,
@@ -24,7 +24,7 @@ impl Large {
         Large::Terms,
     ];
 
-    pub fn name(self) -> &'static str {
+    pub(crate) fn name(self) -> &'static str {
         match self {
             Large::Interleaved => "interleaved",
             Large::ReportsLast => "reports-last",
@@ -34,14 +34,14 @@ impl Large {
         }
     }
 
-    pub fn form(self) -> Form {
+    pub(crate) fn form(self) -> Form {
         match self {
             Large::Terms => Form::Dnf,
             _ => Form::Cnf,
         }
     }
 
-    pub fn reports(self) -> u32 {
+    pub(crate) fn reports(self) -> u32 {
         match self {
             Large::Interleaved => 0x555555,
             Large::ReportsLast => 0xfff000,
@@ -61,7 +61,7 @@ impl Large {
         }
     }
 
-    pub fn rules(self, heap: Global) -> Result<Vec<Rule>, AllocError> {
+    pub(crate) fn rules(self, heap: Global) -> Result<Vec<Rule>, AllocError> {
         let mut numbers = Numbers { seed: 1 };
         let mut rules = Vec::with_capacity(heap, 256)?;
         for _ in 0..256 {

@@ -4,14 +4,9 @@ mod large;
 
 use large::Large;
 use prefix::Prefix;
-use sheet::ClauseSheet;
-use sheet::Form;
-use sheet::TermSheet;
-use sheet::clause::Clauses;
-use sheet::term::Terms;
 use std::env;
 use std::error::AnyError;
-use worth::count_policies;
+use worth::count_policies_of;
 use worth::policy_count::PolicyCountDisplay;
 
 fn main(rt: LibcRuntime) -> Result<(), AnyError> {
@@ -42,10 +37,7 @@ fn measure(rt: &LibcRuntime, sheet: Large) -> Result<(), AnyError> {
         return Err("the prefix is outside the limits".into());
     };
     let rules = sheet.rules(rt.alloc())?;
-    let count = match sheet.form() {
-        Form::Cnf => count_policies(&ClauseSheet::new(prefix, &rules)),
-        Form::Dnf => count_policies(&TermSheet::new(prefix, &rules)),
-    };
+    let count = count_policies_of(sheet.form(), prefix, &rules);
     println!(rt, "{count}")?;
     Ok(())
 }

@@ -1,10 +1,9 @@
 // Prints how many winning policies site F and some small sheets have.
-mod policies;
 mod sample;
 
-use policies::policies;
 use sample::Sample;
 use std::error::AnyError;
+use worth::count_policies_of;
 use worth::policy_count::PolicyCountDisplay;
 
 fn main(rt: LibcRuntime) -> Result<(), AnyError> {
@@ -20,7 +19,7 @@ fn show(rt: &LibcRuntime, sample: Sample) -> Result<(), AnyError> {
     };
     let rules = sample.rules(rt.alloc())?;
     let name = sample.name();
-    let count = policies(sample.form(), prefix, &rules);
+    let count = count_policies_of(sample.form(), prefix, &rules);
     println!(rt, "{name}: policies {count}")?;
     Ok(())
 }

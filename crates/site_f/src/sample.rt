@@ -7,7 +7,7 @@ use std::alloc::Global;
 use std::error::AnyError;
 
 #[derive(Clone, Copy)]
-pub enum Sample {
+pub(crate) enum Sample {
     SiteF,
     ReportFirst,
     OneReply,
@@ -19,7 +19,7 @@ pub enum Sample {
 }
 
 impl Sample {
-    pub const ALL: [Sample; 8] = [
+    pub(crate) const ALL: [Sample; 8] = [
         Sample::SiteF,
         Sample::ReportFirst,
         Sample::OneReply,
@@ -30,7 +30,7 @@ impl Sample {
         Sample::TwentyReplies,
     ];
 
-    pub fn name(self) -> &'static str {
+    pub(crate) fn name(self) -> &'static str {
         match self {
             Sample::SiteF => "site F",
             Sample::ReportFirst => "a report, then two replies",
@@ -43,14 +43,14 @@ impl Sample {
         }
     }
 
-    pub fn form(self) -> Form {
+    pub(crate) fn form(self) -> Form {
         match self {
             Sample::NoTerms | Sample::EmptyTerm => Form::Dnf,
             _ => Form::Cnf,
         }
     }
 
-    pub fn prefix(self) -> Option<Prefix> {
+    pub(crate) fn prefix(self) -> Option<Prefix> {
         match self {
             Sample::SiteF => Prefix::new(4, 0b0101),
             Sample::ReportFirst => Prefix::new(3, 0b001),
@@ -60,7 +60,7 @@ impl Sample {
         }
     }
 
-    pub fn rules(self, heap: Global) -> Result<Vec<Rule>, AnyError> {
+    pub(crate) fn rules(self, heap: Global) -> Result<Vec<Rule>, AnyError> {
         let mut rules = Vec::new(heap);
         match self {
             Sample::SiteF => {

@@ -16,6 +16,7 @@ pub mod yes_no;
 
 pub use count::Count;
 pub use counting::count_policies;
+pub use counting::count_policies_of;
 pub use fault::WorthFault;
 pub use policy_count::PolicyCount;
 pub use scale::Scale;
