@@ -1,5 +1,7 @@
 // Counts the winning policies of one of the fixed large sheets, by name; without
 // a name it lists the names. `tools/bench` times it.
+#![tactic(auto)]
+
 mod large;
 
 use anyhow::anyhow;

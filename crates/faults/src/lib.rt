@@ -1,4 +1,6 @@
 // Why a text is refused: each fault with its number, its place and its layer.
+#![tactic(auto)]
+
 pub mod layer;
 pub mod sheet;
 pub mod text;

@@ -1,5 +1,7 @@
 // The work of each program as a function on values: a program reads its input,
 // calls its job and prints the result.
+#![tactic(auto)]
+
 pub mod fault;
 pub mod input;
 pub mod position;

@@ -1,5 +1,7 @@
 // Quantifier prefixes and lines, and the model that every crate above speaks:
 // kinds, settings and their numbers, points, policies, a policy's line.
+#![tactic(auto)]
+
 pub mod kind;
 pub mod line;
 pub mod prefix;

@@ -2,6 +2,8 @@
 //
 // Standard output has one line: `policies` and the count, or `refused`, the
 // number of the refusal and its place. A refusal is explained on standard error.
+#![tactic(auto)]
+
 use anyhow::anyhow;
 use faults::SheetFault;
 use jobs::input::{MOST_BYTES, taken};

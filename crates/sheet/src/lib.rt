@@ -4,6 +4,8 @@
 //     let rules = [Rule::of(&[Literal::on(2), Literal::off(3)])?];
 //     let sheet = ClauseSheet::new(prefix, &rules);
 //     sheet.broken(2, line) // do the first two values break it already?
+#![tactic(auto)]
+
 pub mod clause;
 pub mod form;
 pub mod literal;

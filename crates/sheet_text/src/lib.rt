@@ -5,6 +5,8 @@
 //     let rules = &table[0..reading.rules];
 //
 // docs/FORMATS.md says what a text looks like.
+#![tactic(auto)]
+
 pub(crate) mod lexer;
 pub mod read;
 pub(crate) mod reader;

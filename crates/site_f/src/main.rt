@@ -1,4 +1,6 @@
 // Prints how many winning policies site F and some small sheets have.
+#![tactic(auto)]
+
 mod sample;
 
 use anyhow::anyhow;

@@ -1,4 +1,6 @@
 // Prints what each of some texts is read as: a sheet or a refusal.
+#![tactic(auto)]
+
 mod cases;
 
 use cases::{Case, EQUAL_RULES, EqualRules, NO_TABLE, WHOLE_TABLE};

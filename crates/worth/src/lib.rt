@@ -3,6 +3,8 @@
 //
 //     let mut stack = WorthStack::new(&mut cells); // as many as positions
 //     stack.worth::<Count, ClauseSheet>(&sheet)?
+#![tactic(auto)]
+
 pub mod count;
 pub mod counting;
 pub mod fault;
