@@ -1,7 +1,7 @@
 // The count scale: in how many ways can the box still win?
 ghost use Rattle.worth.specs.Counts.{count};
 ghost use Rattle.worth.specs.Counted.{count_lawful, same_count};
-ghost use Rattle.std.specs.Prelude.{refl};
+ghost use Rattle.std.proofs.lemmas.Bool.{eqb-true};
 
 use crate::policy_count::PolicyCount;
 use crate::scale::Scale;
@@ -19,7 +19,7 @@ impl Scale for Count {
 
     ghost lawful = { count_lawful };
 
-    ghost tells = { λ a b e. same_count a b (e.0 refl) };
+    ghost tells = { λ a b e. same_count a b (eqb-true a.value b.value e) };
 
     fn lost_worth() -> PolicyCount {
         Self::LOST

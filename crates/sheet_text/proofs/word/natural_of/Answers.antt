@@ -11,7 +11,7 @@ returns-then-byte-lt48 c =
     let out : (get_or c.args.text.now c.loop-byte.byte-index 0 < 48) ⊎ (57 < get_or c.args.text.now c.loop-byte.byte-index 0) =
     elim c.then-byte-lt48.branch [ then-byte-lt48-via-then-byte-lt48 w ↦ inl w.if-byte-lt48.true | then-byte-lt48-via-else-byte-lt48+then-byte-gt57 w ↦ inr w.if-byte-gt57.true ]
     in
-    sym (natural_of_is c.args.text.now (omega arith) c.if-text-gt-MOST-DIGITS.false (λ a b. omega arith) ∙ sym c.loop-byte.invariant.0 ∙ digits_stop c.loop-byte.value c.args.text.now c.loop-byte.byte-index _ c.loop-byte-test.true refl out)
+    sym (natural_of_is c.args.text.now (omega arith) c.if-text-gt-MOST_DIGITS.false (λ a b. omega arith) ∙ sym c.loop-byte.invariant.0 ∙ digits_stop c.loop-byte.value c.args.text.now c.loop-byte.byte-index _ c.loop-byte-test.true refl out)
 
 pub loop-byte-preserved : goal.loop-byte-preserved
 loop-byte-preserved c = (
@@ -22,4 +22,4 @@ loop-byte-preserved c = (
 pub returns : goal.returns
 returns c =
     let e = c.else-text-eq48.either in
-    sym (natural_of_is c.args.text.now (omega arith) c.if-text-gt-MOST-DIGITS.false (λ a b. omega arith) ∙ sym c.loop-byte.invariant.0 ∙ at_drop_all (digits_on c.loop-byte.value) c.args.text.now c.loop-byte.byte-index (omega arith))
+    sym (natural_of_is c.args.text.now (omega arith) c.if-text-gt-MOST_DIGITS.false (λ a b. omega arith) ∙ sym c.loop-byte.invariant.0 ∙ at_drop_all (digits_on c.loop-byte.value) c.args.text.now c.loop-byte.byte-index (omega arith))

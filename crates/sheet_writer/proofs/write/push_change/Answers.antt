@@ -16,9 +16,9 @@ changes false false e = absurd (true≢false e)
 
 pub returns : goal.returns
 returns c =
-    IfOk-weaker c.push-kind.result _ _
+    IfOk-weaker c.push_kind.result _ _
     (λ _ h.
     appended_as (vec_items c.args.out.now)
-    (appended (vec_items c.args.out.now) (codes " 0\n") (kind_word (kind_of c.args.is-report)) c.in-ok-extend-from-slice.ensures.items h)
-    (changes c.args.was-report c.args.is-report c.if-was-report-is-report.false))
-    c.push-kind.ensures
+    (appended (vec_items c.args.out.now) (codes " 0\n") (kind_word (kind_of c.args.is_report)) c.in_ok-extend_from_slice.ensures.items h)
+    (changes c.args.was_report c.args.is_report c.if-was_report-is_report.false))
+    c.push_kind.ensures

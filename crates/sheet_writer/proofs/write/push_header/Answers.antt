@@ -5,7 +5,7 @@ use Rattle.sheet_text.specs.Grammar.{form_word, header_line}
 use Rattle.sheet_writer.specs.Writing.{line_text}
 use Rattle.sheet_writer.proofs.Appending.{appended, appended_as}
 use Rattle.sheet_writer.proofs.write.push_header.Goals as goal
-use Rattle.sheet_writer.proofs.write.push_header.Goals.{in-Cnf+in-ok-extend-from-slice, in-Dnf+in-ok-extend-from-slice-2}
+use Rattle.sheet_writer.proofs.write.push_header.Goals.{in-Cnf+in_ok-extend_from_slice, in-Dnf+in_ok-extend_from_slice-2}
 
 -- The header up to the number of variables.
 abbrev front : Form → List ℕ
@@ -14,10 +14,10 @@ front f = 112 ∷ 32 ∷ (form_word f ++ 32 ∷ [])
 wrote-front : (c : goal.In-ok-push-2) → vec_items c.match-form.out ≡ vec_items c.args.out.now ++ front c.args.form
 wrote-front c =
     elim c.match-form.branch [
-      | in-Cnf+in-ok-extend-from-slice w ↦
-          ap vec_items w.out-is ∙ w.in-ok-extend-from-slice.ensures.items ∙ ap (λ (f : Form). vec_items c.args.out.now ++ front f) (sym w.in-Cnf.is)
-      | in-Dnf+in-ok-extend-from-slice-2 w ↦
-          ap vec_items w.out-is ∙ w.in-ok-extend-from-slice-2.ensures.items ∙ ap (λ (f : Form). vec_items c.args.out.now ++ front f) (sym w.in-Dnf.is)
+      | in-Cnf+in_ok-extend_from_slice w ↦
+          ap vec_items w.out-is ∙ w.in_ok-extend_from_slice.ensures.items ∙ ap (λ (f : Form). vec_items c.args.out.now ++ front f) (sym w.in-Cnf.is)
+      | in-Dnf+in_ok-extend_from_slice-2 w ↦
+          ap vec_items w.out-is ∙ w.in_ok-extend_from_slice-2.ensures.items ∙ ap (λ (f : Form). vec_items c.args.out.now ++ front f) (sym w.in-Dnf.is)
     ]
 
 regrouped : (w a b : List ℕ) → (((112 ∷ 32 ∷ (w ++ 32 ∷ []) ++ a) ++ 32 ∷ []) ++ b) ++ 10 ∷ [] ≡ 112 ∷ 32 ∷ ((w ++ 32 ∷ (a ++ 32 ∷ b)) ++ 10 ∷ [])
@@ -34,6 +34,6 @@ whole f n m was a b d e last ea eb ed ee el =
 
 pub returns : goal.returns
 returns c =
-    whole c.args.form c.args.length c.args.rules (vec_items c.args.out.now) (vec_items c.match-form.out) (vec_items c.push-number.new.out)
-    (vec_items c.push.new.self) (vec_items c.push-number-2.new.out) (vec_items c.push-2.new.self) (wrote-front c) c.in-ok-push-number.ensures
-    c.in-ok-push.ensures.items c.in-ok-push-number-2.ensures c.in-ok-push-2.ensures.items
+    whole c.args.form c.args.length c.args.rules (vec_items c.args.out.now) (vec_items c.match-form.out) (vec_items c.push_number.new.out)
+    (vec_items c.push.new.self) (vec_items c.push_number-2.new.out) (vec_items c.push-2.new.self) (wrote-front c) c.in_ok-push_number.ensures
+    c.in_ok-push.ensures.items c.in_ok-push_number-2.ensures c.in_ok-push-2.ensures.items

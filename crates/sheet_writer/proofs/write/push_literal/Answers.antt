@@ -3,7 +3,7 @@ use Rattle.std.proofs.lemmas.List.{append-nil}
 use Rattle.sheet_writer.specs.Writing.{literal_text}
 use Rattle.sheet_writer.proofs.Appending.{appended, appended_as}
 use Rattle.sheet_writer.proofs.write.push_literal.Goals as goal
-use Rattle.sheet_writer.proofs.write.push_literal.Goals.{then-not-on+in-ok-push, else-not-on}
+use Rattle.sheet_writer.proofs.write.push_literal.Goals.{then-not-on+in_ok-push, else-not-on}
 
 abbrev minus : Bool → List ℕ
 minus on = cond on [] (45 ∷ [])
@@ -11,8 +11,8 @@ minus on = cond on [] (45 ∷ [])
 wrote-minus : (c : goal.In-ok-push-2) → vec_items c.if-not-on.out ≡ vec_items c.args.out.now ++ minus c.in-Some.on
 wrote-minus c =
     elim c.if-not-on.branch [
-      | then-not-on+in-ok-push w ↦
-          ap vec_items w.out-is ∙ w.in-ok-push.ensures.items ∙ ap (λ (b : Bool). vec_items c.args.out.now ++ minus b) (sym w.if-not-on.true)
+      | then-not-on+in_ok-push w ↦
+          ap vec_items w.out-is ∙ w.in_ok-push.ensures.items ∙ ap (λ (b : Bool). vec_items c.args.out.now ++ minus b) (sym w.if-not-on.true)
       | else-not-on w ↦
           ap vec_items w.out-is ∙ sym (append-nil (vec_items c.args.out.now)) ∙ ap (λ (b : Bool). vec_items c.args.out.now ++ minus b) (sym w.if-not-on.false)
     ]
@@ -28,6 +28,6 @@ whole k on was a b last ea eb el =
 
 pub returns : goal.returns
 returns c =
-    whole c.args.position c.in-Some.on (vec_items c.args.out.now) (vec_items c.if-not-on.out) (vec_items c.push-number.new.out)
-    (vec_items c.push-2.new.self) (wrote-minus c) c.in-ok-push-number.ensures c.in-ok-push-2.ensures.items
+    whole c.args.position c.in-Some.on (vec_items c.args.out.now) (vec_items c.if-not-on.out) (vec_items c.push_number.new.out)
+    (vec_items c.push-2.new.self) (wrote-minus c) c.in_ok-push_number.ensures c.in_ok-push-2.ensures.items
     ∙ ap (λ (w : Option Bool). vec_items c.args.out.now ++ literal_text c.args.position w) (sym c.in-Some.is)

@@ -41,9 +41,9 @@ loop-last-preserved c =
     let i = c.loop-last.last in
     let h : i < length ks = omega (arith, c.len-last-end.ensures.kinds) in
     let next : Turn ks i (i + 1) = subst (Turn ks i) (sym (add-one i)) (turn ks i h) in
-    next c.is-report-in-loop-last.result c.is-report-in-loop-last-2.result (vec_items c.loop-last.out) (vec_items c.push-change.new.out)
-    (vec_items c.push-variable-in-loop-last.new.out) c.is-report-in-loop-last.ensures c.is-report-in-loop-last-2.ensures
-    c.in-ok-push-change.ensures c.in-ok-push-variable-2.ensures
+    next c.is_report-in-loop-last.result c.is_report-in-loop-last-2.result (vec_items c.loop-last.out) (vec_items c.push_change.new.out)
+    (vec_items c.push_variable-in-loop-last.new.out) c.is_report-in-loop-last.ensures c.is_report-in-loop-last-2.ensures
+    c.in_ok-push_change.ensures c.in_ok-push_variable-2.ensures
     ∙ c.loop-last.invariant
 
 pub returns : goal.returns
@@ -51,7 +51,7 @@ returns c =
     let ks = kinds c.args.prefix in
     let some : 0 < length ks = omega (arith, c.len-last-end.ensures.kinds, c.len-last-end.ensures.some) in
     let all : length ks ≤ c.loop-last.last = omega (arith, c.len-last-end.ensures.kinds) in
-    made_appended c.extend-from-slice.result _ (vec_items c.loop-last.out) (codes " 0\n") c.extend-from-slice.ensures.items
+    made_appended c.extend_from_slice.result _ (vec_items c.loop-last.out) (codes " 0\n") c.extend_from_slice.ensures.items
     (λ _ l.
-    whole ks c.loop-last.last c.is-report.result (vec_items c.args.out.now) (vec_items c.push-kind.new.out) (vec_items c.push-variable.new.out)
-    (vec_items c.loop-last.out) _ some all c.is-report.ensures c.in-ok-push-kind.ensures c.in-ok-push-variable.ensures c.loop-last.invariant l)
+    whole ks c.loop-last.last c.is_report.result (vec_items c.args.out.now) (vec_items c.push_kind.new.out) (vec_items c.push_variable.new.out)
+    (vec_items c.loop-last.out) _ some all c.is_report.ensures c.in_ok-push_kind.ensures c.in_ok-push_variable.ensures c.loop-last.invariant l)

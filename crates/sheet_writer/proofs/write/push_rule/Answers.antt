@@ -27,7 +27,7 @@ loop-before-preserved c =
     let i = c.loop-before.before in
     let was = vec_items c.args.out.now in
     let next : Turn r i (i + 1) = subst (Turn r i) (sym (add-one i)) (turn r i) in
-    appended_as was (appended was (literals_text (rising r i)) (literal_text (i + 1) c.wanted.result) c.loop-before.invariant c.in-ok-push-literal.ensures)
+    appended_as was (appended was (literals_text (rising r i)) (literal_text (i + 1) c.wanted.result) c.loop-before.invariant c.in_ok-push_literal.ensures)
     (next c.wanted.result c.wanted.ensures)
 
 pub returns : goal.returns
@@ -37,5 +37,5 @@ returns c =
     let n = c.args.length in
     let was = vec_items c.args.out.now in
     let e : i ≡ n = omega arith in
-    made_appended c.extend-from-slice.result _ (vec_items c.loop-before.out) (codes "0\n") c.extend-from-slice.ensures.items
+    made_appended c.extend_from_slice.result _ (vec_items c.loop-before.out) (codes "0\n") c.extend_from_slice.ensures.items
     (λ _ l. appended_as was (appended was (literals_text (rising r i)) (codes "0\n") c.loop-before.invariant l) (whole r i n e))

@@ -18,8 +18,8 @@ turn n i rules out last h e =
 
 pub loop-rule-preserved : goal.loop-rule-preserved
 loop-rule-preserved c =
-    turn c.args.length c.loop-rule.rule-index c.args.rules.now (vec_items c.loop-rule.out) (vec_items c.push-rule.new.out) c.loop-rule-test.true
-    c.in-ok-push-rule.ensures
+    turn c.args.length c.loop-rule.rule-index c.args.rules.now (vec_items c.loop-rule.out) (vec_items c.push_rule.new.out) c.loop-rule-test.true
+    c.in_ok-push_rule.ensures
     ∙ c.loop-rule.invariant
 
 pub returns : goal.returns

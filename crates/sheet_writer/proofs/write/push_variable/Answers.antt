@@ -5,5 +5,5 @@ use Rattle.sheet_writer.proofs.write.push_variable.Goals as goal
 
 pub returns : goal.returns
 returns c =
-    IfOk-weaker c.push-number.result _ _ (λ _ h. appended (vec_items c.args.out.now) (32 ∷ []) (decimal c.args.position) c.in-ok-push.ensures.items h)
-    c.push-number.ensures
+    IfOk-weaker c.push_number.result _ _ (λ _ h. appended (vec_items c.args.out.now) (32 ∷ []) (decimal c.args.position) c.in_ok-push.ensures.items h)
+    c.push_number.ensures

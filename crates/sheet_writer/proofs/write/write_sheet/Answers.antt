@@ -45,15 +45,15 @@ whole f p rs counted n new a b last e e' r en ea eb el =
     let header = ea ∙ ap (λ (x : List ℕ). x ++ h) en in
     appended [] (h ++ q) (flat_map line_text (rule_lines (map (λ r. rising r n) counted))) (appended [] h q header eb) el ∙ parts f p rs counted n e e' r
 
-text : (c : goal.In-ok-push-rules) → vec_items c.push-rules.new.out ≡ written c.args.form c.args.prefix c.args.rules.now
+text : (c : goal.In-ok-push_rules) → vec_items c.push_rules.new.out ≡ written c.args.form c.args.prefix c.args.rules.now
 text c =
     whole c.args.form c.args.prefix c.args.rules.now c.counted-rules.result.now c.len-length.result (vec_items c.new-out.result)
-    (vec_items c.push-header.new.out) (vec_items c.push-quantifiers.new.out) (vec_items c.push-rules.new.out) c.len-length.ensures.kinds
-    c.len-length.ensures.value c.counted-rules.ensures c.new-out.ensures.items c.in-ok-push-header.ensures
-    c.in-ok-push-quantifiers.ensures c.in-ok-push-rules.ensures
+    (vec_items c.push_header.new.out) (vec_items c.push_quantifiers.new.out) (vec_items c.push_rules.new.out) c.len-length.ensures.kinds
+    c.len-length.ensures.value c.counted-rules.ensures c.new-out.ensures.items c.in_ok-push_header.ensures
+    c.in_ok-push_quantifiers.ensures c.in_ok-push_rules.ensures
 
 pub returns : goal.returns
 returns c =
     let sheet = sheet_of_rules c.args.form c.args.prefix c.args.rules.now in
-    let says : Says (vec_items c.push-rules.new.out) sheet = subst (λ (t : List ℕ). Says t sheet) (sym (text c)) (written-says c.args.form c.args.prefix c.args.rules.now) in
-    record { text = text c; says = says; back = (read_exactly (vec_items c.push-rules.new.out) sheet).1 says }
+    let says : Says (vec_items c.push_rules.new.out) sheet = subst (λ (t : List ℕ). Says t sheet) (sym (text c)) (written-says c.args.form c.args.prefix c.args.rules.now) in
+    record { text = text c; says = says; back = (read_exactly (vec_items c.push_rules.new.out) sheet).1 says }

@@ -44,8 +44,8 @@ down g c =
     let next = add-one d in
     let long = length-kinds p.length p.reports in
     record {
-      inside = omega (arith, c.loop-known.invariant.within, c.len-n.ensures.value, c.in-default.ensures);
-      first = changed_here line (d + 1) d to _ c.with-line.ensures next (omega (arith, c.len-n.ensures.few, c.in-default.ensures)) ∙ ap not (c.is-report.ensures ∙ ap (is_report (kinds p)) next);
+      inside = omega (arith, c.loop-known.invariant.within, c.len-n.ensures.value, c.in_default.ensures);
+      first = changed_here line (d + 1) d to _ c.with-line.ensures next (omega (arith, c.len-n.ensures.few, c.in_default.ensures)) ∙ ap not (c.is_report.ensures ∙ ap (is_report (kinds p)) next);
       before = changed_before line (d + 1) d to _ c.with-line.ensures next;
     }
 
@@ -60,7 +60,7 @@ pub loop-known-smaller-then-value-report : goal.loop-known-smaller-then-value-re
 loop-known-smaller-then-value-report g c =
     let d = c.loop-known.length in
     let e : d ≡ suc (d - 1) = omega arith in
-    fewer_up _ d (d - 1) _ _ c.if-not-known.false e true (branch _ _ d (d - 1) _ _ true e c.value.ensures c.is-report-report.ensures c.if-value-report.true)
+    fewer_up _ d (d - 1) _ _ c.if-not-known.false e true (branch _ _ d (d - 1) _ _ true e c.value.ensures c.is_report-report.ensures c.if-value-report.true)
 
 pub loop-known-preserved-then-value-report : goal.loop-known-preserved-then-value-report
 loop-known-preserved-then-value-report g c =
@@ -72,25 +72,25 @@ loop-known-preserved-then-value-report g c =
     let cell = get_or_read c.loop-known.cells (d - 1) c.index-cells-last.result
     (omega (arith, c.loop-known.invariant.within, length-kinds p.length p.reports, c.loop-known.auto.cells)) c.index-cells-last.is j.lost in
     holds_up _ _ _ _ _ _ _ _ _ _ c.loop-known.invariant (d - 1) e c.if-length-start.false c.index-cells-last.result c.join-worth.result c.if-not-known.false
-    (branch _ _ d (d - 1) _ _ true e c.value.ensures c.is-report-report.ensures c.if-value-report.true) (sym cell)
-    (c.join-worth.ensures ∙ ap (λ (q : Bool). joined j q c.index-cells-last.result c.loop-known.worth) (c.is-report-report.ensures ∙ ap (is_report (kinds p)) e))
+    (branch _ _ d (d - 1) _ _ true e c.value.ensures c.is_report-report.ensures c.if-value-report.true) (sym cell)
+    (c.join-worth.ensures ∙ ap (λ (q : Bool). joined j q c.index-cells-last.result c.loop-known.worth) (c.is_report-report.ensures ∙ ap (is_report (kinds p)) e))
 
-pub loop-known-smaller-then-is-settled : goal.loop-known-smaller-then-is-settled
-loop-known-smaller-then-is-settled g c =
+pub loop-known-smaller-then-is_settled : goal.loop-known-smaller-then-is_settled
+loop-known-smaller-then-is_settled g c =
     let d = c.loop-known.length in
     let e : d ≡ suc (d - 1) = omega arith in
-    fewer_up _ d (d - 1) _ _ c.if-not-known.false e false (branch _ _ d (d - 1) _ _ false e c.value.ensures c.is-report-report.ensures c.if-value-report.false)
+    fewer_up _ d (d - 1) _ _ c.if-not-known.false e false (branch _ _ d (d - 1) _ _ false e c.value.ensures c.is_report-report.ensures c.if-value-report.false)
 
-pub loop-known-preserved-then-is-settled : goal.loop-known-preserved-then-is-settled
-loop-known-preserved-then-is-settled g c =
+pub loop-known-preserved-then-is_settled : goal.loop-known-preserved-then-is_settled
+loop-known-preserved-then-is_settled g c =
     let p = c.prefix-prefix.result in
     let d = c.loop-known.length in
     let j = g.S.Scale.joins in
     let e : d ≡ suc (d - 1) = omega arith in
-    let report = c.is-report-report.ensures ∙ ap (is_report (kinds p)) e in
+    let report = c.is_report-report.ensures ∙ ap (is_report (kinds p)) e in
     holds-cut _ _ _ _ _ _ _ _ _ _ c.loop-known.invariant (d - 1) e c.if-length-start.false c.if-not-known.false
-    (branch _ _ d (d - 1) _ _ false e c.value.ensures c.is-report-report.ensures c.if-value-report.false)
-    (λ y. ap (λ (q : Bool). joined j q c.loop-known.worth y) (sym report) ∙ c.is-settled.ensures c.if-is-settled.true y)
+    (branch _ _ d (d - 1) _ _ false e c.value.ensures c.is_report-report.ensures c.if-value-report.false)
+    (λ y. ap (λ (q : Bool). joined j q c.loop-known.worth y) (sym report) ∙ c.is_settled.ensures c.if-is_settled.true y)
 
 -- Going over: the line was in the first branch and has the second value now.
 over : (g : given.Over) (c : goal.After-with-line-in-loop-known g) → Over (kinds c.prefix-prefix.result) (c.loop-known.length - 1) c.loop-known.line.mask c.with-line-in-loop-known.result.mask
@@ -102,8 +102,8 @@ over g c =
     let e : d ≡ suc (d - 1) = omega arith in
     let few : d - 1 < 32 = omega (arith, c.loop-known.invariant.within, length-kinds p.length p.reports) in
     record {
-      was = branch _ _ d (d - 1) _ _ false e c.value.ensures c.is-report-report.ensures c.if-value-report.false;
-      second = changed_here line d (d - 1) to _ c.with-line-in-loop-known.ensures e few ∙ c.is-report-report.ensures ∙ ap (is_report (kinds p)) e;
+      was = branch _ _ d (d - 1) _ _ false e c.value.ensures c.is_report-report.ensures c.if-value-report.false;
+      second = changed_here line d (d - 1) to _ c.with-line-in-loop-known.ensures e few ∙ c.is_report-report.ensures ∙ ap (is_report (kinds p)) e;
       before = changed_before line d (d - 1) to _ c.with-line-in-loop-known.ensures e;
     }
 

@@ -27,7 +27,7 @@ returns g c =
     let rest : drop c.min.result (kinds p) ≡ drop c.args.length (kinds p) =
     ap (λ (k : ℕ). drop k (kinds p)) (to ∙ ap (min c.args.length) (sym long)) ∙ drop_min c.args.length (kinds p) in (
       omega arith,
-      c.walk-from-worth.ensures ∙ ap (λ ks. worth j kept ks (bits c.min.result c.args.line.mask)) rest
+      c.walk_from-worth.ensures ∙ ap (λ ks. worth j kept ks (bits c.min.result c.args.line.mask)) rest
           ∙ ap (λ (k : ℕ). worth j kept (drop c.args.length (kinds p)) (bits k c.args.line.mask)) to,
-      (λ k h. subst (λ x. get_or c.fill.new.cells k x ≡ x) c.lost-worth-lost.ensures (c.fill.ensures k h)),
+      (λ k h. subst (λ x. get_or c.fill.new.cells k x ≡ x) c.lost_worth-lost.ensures (c.fill.ensures k h)),
     )

@@ -9,5 +9,5 @@ returns-then-position-eq0 c =
 
 pub returns : goal.returns
 returns c =
-    ap not c.is-report.ensures
+    ap not c.is_report.ensures
     ∙ reply_inside c.args.self.length c.args.self.reports c.args.position (c.args.position - 1) (omega arith) (omega arith)

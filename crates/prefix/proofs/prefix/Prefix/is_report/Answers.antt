@@ -5,5 +5,5 @@ use Rattle.prefix.proofs.prefix.Prefix.is_report.Goals as goal
 
 pub returns : goal.returns
 returns c =
-    c.value.ensures ∙ ap (λ (m : ℕ). mask_value m c.args.position) c.from-mask.ensures
+    c.value.ensures ∙ ap (λ (m : ℕ). mask_value m c.args.position) c.from_mask.ensures
     ∙ value_report c.args.self.length c.args.self.reports c.args.position (omega arith)

@@ -8,10 +8,10 @@ pub loop-before-preserved : goal.loop-before-preserved
 loop-before-preserved c =
     let ks = kinds c.args.self in
     let k = c.loop-before.before in
-    let here : c.points-at-points.result ≡ points_at ks (suc k) = c.points-at-points.ensures.value ∙ ap (points_at ks) (add-one k) in
-    let few = c.points-at-points.ensures.few in
+    let here : c.points_at-points.result ≡ points_at ks (suc k) = c.points_at-points.ensures.value ∙ ap (points_at ks) (add-one k) in
+    let few = c.points_at-points.ensures.few in
     let most = c.loop-before.invariant.1 in (
-      ap (λ (x : ℕ). x + c.points-at-points.result) c.loop-before.invariant.0 ∙ ap (λ (x : ℕ). points_to ks k + x) here ∙ ap (points_to ks) (sym (add-one k)),
+      ap (λ (x : ℕ). x + c.points_at-points.result) c.loop-before.invariant.0 ∙ ap (λ (x : ℕ). points_to ks k + x) here ∙ ap (points_to ks) (sym (add-one k)),
       omega arith,
     )
 

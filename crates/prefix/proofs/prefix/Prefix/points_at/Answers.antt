@@ -9,11 +9,11 @@ pub returns : goal.returns
 returns c =
     let ks = kinds c.args.self in
     let k = c.args.position in
-    let u = c.reports-before.result in
-    let few : u ≤ 12 = c.reports-before.ensures.few in
+    let u = c.reports_before.result in
+    let few : u ≤ 12 = c.reports_before.ensures.few in
     let one : (1 * 2 ^ u) % 2 ^ 64 ≡ 2 ^ u = one_shl u 64 (omega arith) in
-    let reply : is_reply ks k ≡ true = sym c.is-reply.ensures ∙ c.if-not-is-reply.false in
+    let reply : is_reply ks k ≡ true = sym c.is_reply.ensures ∙ c.if-not-is_reply.false in
     record {
-      value = one ∙ ap (λ (n : ℕ). 2 ^ n) c.reports-before.ensures.value ∙ sym (cond-true (is_reply ks k) (2 ^ reports_before ks k) 0 reply);
+      value = one ∙ ap (λ (n : ℕ). 2 ^ n) c.reports_before.ensures.value ∙ sym (cond-true (is_reply ks k) (2 ^ reports_before ks k) 0 reply);
       few = omega (arith, one, pow_mono few);
     }

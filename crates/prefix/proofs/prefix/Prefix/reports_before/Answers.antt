@@ -10,9 +10,9 @@ pub returns : goal.returns
 returns c =
     let p = c.args.self in
     let k = c.args.position in
-    let cut : bit_and p.reports c.first-positions.result ≡ p.reports % 2 ^ min (k - 1) 32 =
-    ap (bit_and p.reports) (c.first-positions.ensures ∙ ap (λ (d : ℕ). 2 ^ min d 32 - 1) c.saturating-sub.ensures) ∙ and_mask p.reports (min (k - 1) 32) in
-    let value : ones (bit_and p.reports c.first-positions.result) ≡ reports_before (kinds p) k =
+    let cut : bit_and p.reports c.first_positions.result ≡ p.reports % 2 ^ min (k - 1) 32 =
+    ap (bit_and p.reports) (c.first_positions.ensures ∙ ap (λ (d : ℕ). 2 ^ min d 32 - 1) c.saturating_sub.ensures) ∙ and_mask p.reports (min (k - 1) 32) in
+    let value : ones (bit_and p.reports c.first_positions.result) ≡ reports_before (kinds p) k =
     ap ones cut ∙ count_before p.length p.reports k (omega arith) (omega arith) in
     record {
       value = value;

@@ -10,14 +10,14 @@ use Rattle.sheet.proofs.clause.ClauseSheetSheet.broken.Goals as goal
 abbrev zeros : Rule
 zeros = record { named = 0; wanted = 0 }
 
-pub returns-then-all-fail : goal.returns-then-all-fail
-returns-then-all-fail c =
+pub returns-then-all_fail : goal.returns-then-all_fail
+returns-then-all_fail c =
     let s = c.args.self.now in
     let n = c.len-n.result in
     let p = all_fail n (bits (min c.args.length n) c.args.line.mask) in
     record {
       answer = at_part clauses_broken s.prefix s.rules.now c.args.length c.args.line n _ c.len-n.ensures.value
-          (c.loop-rule.invariant ∙ some_found p s.rules.now c.loop-rule.rule-index zeros c.loop-rule-test.true c.if-all-fail.ensures);
+          (c.loop-rule.invariant ∙ some_found p s.rules.now c.loop-rule.rule-index zeros c.loop-rule-test.true c.if-all_fail.ensures);
       sound = clauses_sound s.prefix.length s.rules.now;
     }
 
@@ -25,7 +25,7 @@ pub loop-rule-preserved : goal.loop-rule-preserved
 loop-rule-preserved c =
     let n = c.len-n.result in
     let p = all_fail n (bits (min c.args.length n) c.args.line.mask) in
-    c.loop-rule.invariant ∙ some_passed p c.args.self.now.rules.now c.loop-rule.rule-index zeros c.loop-rule-test.true c.if-all-fail.ensures
+    c.loop-rule.invariant ∙ some_passed p c.args.self.now.rules.now c.loop-rule.rule-index zeros c.loop-rule-test.true c.if-all_fail.ensures
 
 pub returns : goal.returns
 returns c =

@@ -4,5 +4,5 @@ use Rattle.sheet.proofs.rule.Rule.failing.Goals as goal
 
 pub returns : goal.returns
 returns c i =
-    failing_bit c.args.self c.args.length c.args.line.mask c.mask.result c.first-positions.result i c.mask.ensures
-    c.first-positions.ensures (omega arith)
+    failing_bit c.args.self c.args.length c.args.line.mask c.mask.result c.first_positions.result i c.mask.ensures
+    c.first_positions.ensures (omega arith)

@@ -8,13 +8,13 @@ use Rattle.sheet.proofs.rule.Rule.of.Goals as goal
 abbrev zeros : Literal
 zeros = record { position = 0; wanted = false }
 
-pub returns-in-default : goal.returns-in-default
-returns-in-default c d =
+pub returns-in_default : goal.returns-in_default
+returns-in_default c d =
     let ls = c.args.literals.now in
     let i = c.loop-literal.literal-index in
     let parts : ls ≡ take i ls ++ get_or ls i zeros ∷ drop (i + 1) ls =
     sym (take-append-drop i ls) ∙ ap (λ t. take i ls ++ t) (drop_more ls i zeros c.loop-literal-test.true) in
-    c.in-default.ensures
+    c.in_default.ensures
     (made-next (take i ls) (get_or ls i zeros) (drop (i + 1) ls) c.loop-literal.rule c.loop-literal.invariant (subst Distinct parts d))
 
 pub loop-literal-preserved : goal.loop-literal-preserved

@@ -10,14 +10,14 @@ use Rattle.sheet.proofs.term.TermSheetSheet.broken.Goals as goal
 abbrev zeros : Rule
 zeros = record { named = 0; wanted = 0 }
 
-pub returns-then-not-any-fails : goal.returns-then-not-any-fails
-returns-then-not-any-fails c =
+pub returns-then-not-any_fails : goal.returns-then-not-any_fails
+returns-then-not-any_fails c =
     let s = c.args.self.now in
     let n = c.len-n.result in
     let p = some_fails n (bits (min c.args.length n) c.args.line.mask) in
     record {
       answer = at_part terms_broken s.prefix s.rules.now c.args.length c.args.line n _ c.len-n.ensures.value
-          (c.loop-rule.invariant ∙ every_missed p s.rules.now c.loop-rule.rule-index zeros c.loop-rule-test.true c.if-not-any-fails.ensures);
+          (c.loop-rule.invariant ∙ every_missed p s.rules.now c.loop-rule.rule-index zeros c.loop-rule-test.true c.if-not-any_fails.ensures);
       sound = terms_sound s.prefix.length s.rules.now;
     }
 
@@ -25,7 +25,7 @@ pub loop-rule-preserved : goal.loop-rule-preserved
 loop-rule-preserved c =
     let n = c.len-n.result in
     let p = some_fails n (bits (min c.args.length n) c.args.line.mask) in
-    c.loop-rule.invariant ∙ every_passed p c.args.self.now.rules.now c.loop-rule.rule-index zeros c.loop-rule-test.true c.if-not-any-fails.ensures
+    c.loop-rule.invariant ∙ every_passed p c.args.self.now.rules.now c.loop-rule.rule-index zeros c.loop-rule-test.true c.if-not-any_fails.ensures
 
 pub returns : goal.returns
 returns c =

@@ -8,4 +8,4 @@ pub returns : goal.returns
 returns c =
     let product : c.value.result * c.value-2.result ≡ c.args.first.value * c.args.second.value =
     ap (λ (x : ℕ). x * c.value-2.result) c.value.ensures ∙ ap (λ (y : ℕ). c.args.first.value * y) c.value-2.ensures in
-    c.new.ensures ∙ same_count (capped c.saturating-mul.result) (capped (c.args.first.value * c.args.second.value)) (omega arith)
+    c.new.ensures ∙ same_count (capped c.saturating_mul.result) (capped (c.args.first.value * c.args.second.value)) (omega arith)
