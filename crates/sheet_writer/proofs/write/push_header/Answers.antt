@@ -5,19 +5,19 @@ use Rattle.sheet_text.specs.Grammar.{form_word, header_line}
 use Rattle.sheet_writer.specs.Writing.{line_text}
 use Rattle.sheet_writer.proofs.Appending.{appended, appended_as}
 use Rattle.sheet_writer.proofs.write.push_header.Goals as goal
-use Rattle.sheet_writer.proofs.write.push_header.Goals.{in-Cnf+in_ok-extend_from_slice, in-Dnf+in_ok-extend_from_slice-2}
+use Rattle.sheet_writer.proofs.write.push_header.Goals.{in-Cnf+in_ok-extend_from_slice-in-Cnf, in-Dnf+in_ok-extend_from_slice-in-Dnf}
 
 -- The header up to the number of variables.
 abbrev front : Form → List ℕ
 front f = 112 ∷ 32 ∷ (form_word f ++ 32 ∷ [])
 
-wrote-front : (c : goal.In-ok-push-2) → vec_items c.match-form.out ≡ vec_items c.args.out.now ++ front c.args.form
+wrote-front : (c : goal.In_ok-push-2) → vec_items c.match-form.out ≡ vec_items c.args.out.now ++ front c.args.form
 wrote-front c =
     elim c.match-form.branch [
-      | in-Cnf+in_ok-extend_from_slice w ↦
-          ap vec_items w.out-is ∙ w.in_ok-extend_from_slice.ensures.items ∙ ap (λ (f : Form). vec_items c.args.out.now ++ front f) (sym w.in-Cnf.is)
-      | in-Dnf+in_ok-extend_from_slice-2 w ↦
-          ap vec_items w.out-is ∙ w.in_ok-extend_from_slice-2.ensures.items ∙ ap (λ (f : Form). vec_items c.args.out.now ++ front f) (sym w.in-Dnf.is)
+      | in-Cnf+in_ok-extend_from_slice-in-Cnf w ↦
+          ap vec_items w.out-is ∙ w.in_ok-extend_from_slice-in-Cnf.ensures.items ∙ ap (λ (f : Form). vec_items c.args.out.now ++ front f) (sym w.in-Cnf.is)
+      | in-Dnf+in_ok-extend_from_slice-in-Dnf w ↦
+          ap vec_items w.out-is ∙ w.in_ok-extend_from_slice-in-Dnf.ensures.items ∙ ap (λ (f : Form). vec_items c.args.out.now ++ front f) (sym w.in-Dnf.is)
     ]
 
 regrouped : (w a b : List ℕ) → (((112 ∷ 32 ∷ (w ++ 32 ∷ []) ++ a) ++ 32 ∷ []) ++ b) ++ 10 ∷ [] ≡ 112 ∷ 32 ∷ ((w ++ 32 ∷ (a ++ 32 ∷ b)) ++ 10 ∷ [])

@@ -8,7 +8,7 @@ use Rattle.sheet_writer.proofs.write.push_literal.Goals.{then-not-on+in_ok-push,
 abbrev minus : Bool → List ℕ
 minus on = cond on [] (45 ∷ [])
 
-wrote-minus : (c : goal.In-ok-push-2) → vec_items c.if-not-on.out ≡ vec_items c.args.out.now ++ minus c.in-Some.on
+wrote-minus : (c : goal.In_ok-push-2) → vec_items c.if-not-on.out ≡ vec_items c.args.out.now ++ minus c.in-Some.on
 wrote-minus c =
     elim c.if-not-on.branch [
       | then-not-on+in_ok-push w ↦

@@ -45,7 +45,7 @@ whole f p rs counted n new a b last e e' r en ea eb el =
     let header = ea ∙ ap (λ (x : List ℕ). x ++ h) en in
     appended [] (h ++ q) (flat_map line_text (rule_lines (map (λ r. rising r n) counted))) (appended [] h q header eb) el ∙ parts f p rs counted n e e' r
 
-text : (c : goal.In-ok-push_rules) → vec_items c.push_rules.new.out ≡ written c.args.form c.args.prefix c.args.rules.now
+text : (c : goal.In_ok-push_rules) → vec_items c.push_rules.new.out ≡ written c.args.form c.args.prefix c.args.rules.now
 text c =
     whole c.args.form c.args.prefix c.args.rules.now c.counted-rules.result.now c.len-length.result (vec_items c.new-out.result)
     (vec_items c.push_header.new.out) (vec_items c.push_quantifiers.new.out) (vec_items c.push_rules.new.out) c.len-length.ensures.kinds
