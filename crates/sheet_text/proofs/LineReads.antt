@@ -5,7 +5,7 @@ use Rattle.std.specs.List.{AllByRecursion as All}
 use Rattle.prefix.specs.declared.kind.Kind.{Kind}
 use Rattle.sheet.specs.Literals.{Distinct}
 use Rattle.sheet.specs.declared.literal.Literal.{Literal}
-use Rattle.sheet_text.specs.Grammar.{non_empty, Variable, variable, Quantifier, kind_word, Signed, rule_line, placed, Ranges}
+use Rattle.sheet_text.specs.Grammar.{non_empty, Variable, kind_word, Signed, rule_line, placed, Ranges}
 use Rattle.sheet_text.specs.Keeping.{Sound, Named, BlankFrom}
 use Rattle.sheet_text.specs.Machine.{in_mode, opened, open_in, first_word}
 use Rattle.sheet_text.specs.Reading.{Progress, given, run}

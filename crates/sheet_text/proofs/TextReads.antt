@@ -10,7 +10,7 @@ use Rattle.prefix.specs.Prefixes.{kinds_of}
 use Rattle.prefix.specs.declared.kind.Kind.{Kind}
 use Rattle.sheet.specs.Literals.{Distinct}
 use Rattle.sheet.specs.declared.form.Form.{Form}
-use Rattle.sheet_text.specs.Grammar.{pieces, non_empty, words_of, Comment, header_line, Quantifier, quantifier_line, rule_line, order, placed, Ranges, Says}
+use Rattle.sheet_text.specs.Grammar.{pieces, non_empty, words_of, Comment, header_line, quantifier_line, rule_line, order, placed, Ranges, Says}
 use Rattle.sheet_text.specs.Keeping.{position_at}
 use Rattle.sheet_text.specs.Machine.{blank, start, in_mode, open_in, opened, first_word}
 use Rattle.sheet_text.specs.Reading.{Sheet, Progress, begin, given, run, complete, finished, whole, ending, read_through, sheet_of, sheet_from, read_text}

@@ -12,7 +12,7 @@ use Rattle.sheet_text.specs.Grammar.{Variable, variable, position_in, Once, Rang
 use Rattle.sheet_text.specs.Keeping.{Sound, position_at}
 use Rattle.sheet_text.specs.Machine.{in_mode, nothing, step, report_too_many, naming, variable_number, variable_word, line_over}
 use Rattle.sheet_text.specs.Reading.{Progress, run}
-use Rattle.sheet_text.specs.Words.{Token, letters, number, line_end, sort_word, numeral_of, Tokens, next}
+use Rattle.sheet_text.specs.Words.{Token, letters, number, line_end, sort_word, numeral_of, Tokens}
 use Rattle.faults.specs.declared.sheet.SheetFault.{SheetFault}
 use Rattle.faults.specs.declared.sheet.SheetFault.TheVariants as fault
 use Rattle.sheet_text.specs.declared.reader.Mode.TheVariants as mode
