@@ -3,7 +3,7 @@ use Rattle.std.proofs.Common.{◌≡◌, ℕ, ◌+◌, eqb, List, [], ◌∷◌,
 use Rattle.std.proofs.ByRecursion.{All-push}
 use Rattle.std.proofs.lemmas.List.{append_assoc, append-nil, length_push}
 use Rattle.std.proofs.lemmas.Bool.{cond-false, ne_eqb}
-use Rattle.std.specs.List.{AllByRecursion as All}
+use Rattle.std.specs.List.{AllByRecursion}
 use Rattle.jobs.specs.Positions.{line_end, line_ends, EndsAt}
 
 pub ends_none : EndsAt [] (record { line = 1; column = 1 })
@@ -13,7 +13,7 @@ ends_append : (xs ys : List ℕ) → line_ends (xs ++ ys) ≡ line_ends xs + lin
 ends_append [] ys = omega arith
 ends_append (x ∷ xs) ys = omega (arith, ends_append xs ys)
 
-no_ends : (xs : List ℕ) → All (λ b. b ≡ 10 → ⊥) xs → line_ends xs ≡ 0
+no_ends : (xs : List ℕ) → AllByRecursion (λ b. b ≡ 10 → ⊥) xs → line_ends xs ≡ 0
 no_ends [] h = refl
 no_ends (x ∷ xs) h = let z : line_end x ≡ 0 = cond-false (eqb x 10) 1 0 (ne_eqb x 10 h.0) in omega (arith, no_ends xs h.1)
 

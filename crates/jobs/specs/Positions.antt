@@ -1,6 +1,6 @@
 -- Lines and columns of a text.
 use Rattle.std.specs.Prelude.{◌≡◌, ℕ, ◌+◌, cond, ◌⊎◌, List, [], ◌∷◌, ◌++◌, length, ◌==◌, ◌≢◌}
-use Rattle.std.specs.List.{AllByRecursion as All}
+use Rattle.std.specs.List.{AllByRecursion}
 use Rattle.jobs.specs.declared.position.TextPosition.{TextPosition}
 
 -- How many line ends (byte 10) a byte is, and a list of bytes has.
@@ -21,6 +21,6 @@ pub record EndsAt (bytes : List ℕ) (position : TextPosition) : Type 0 where
   pub part : List ℕ
   pub parts : bytes ≡ lines ++ part
   pub whole : WholeLines lines
-  pub inside : All (λ b. b ≢ 10) part
+  pub inside : AllByRecursion (λ b. b ≢ 10) part
   pub line : position.line ≡ 1 + line_ends lines
   pub column : position.column ≡ 1 + length part

@@ -1,6 +1,6 @@
 -- The literals of a rule, one position after the other.
 use Rattle.std.proofs.Common.{◌≡◌, ℕ, zero, suc, ◌<◌, Bool, true, false, cond, ◌&&◌, ◌||◌, List, ◌∷◌, Decides, refl, arith}
-use Rattle.std.specs.List.{AllByRecursion as All}
+use Rattle.std.specs.List.{AllByRecursion}
 use Rattle.std.proofs.lemmas.Bool.Decides.{Decides-below_and, Decides-below_or, Decides-and}
 use Rattle.std.proofs.lemmas.Bool.{false≢true}
 use Rattle.prefix.specs.Bits.{bit}
@@ -53,8 +53,8 @@ module _ (r : Rule) (p : Literal → Bool) where
       (λ i. some-cond p (literal_at r i) (literals r i) (bit r.named i)) n
 
 -- What holds at each of n positions holds of the literals there.
-pub all-literals : (r : Rule) (P : Literal → Type 0) (n : ℕ) → ((i : ℕ) → i < n → P (literal_at r i)) → All P (literals r n)
+pub all-literals : (r : Rule) (P : Literal → Type 0) (n : ℕ) → ((i : ℕ) → i < n → P (literal_at r i)) → AllByRecursion P (literals r n)
 all-literals r P zero f = tt
 all-literals r P (suc n) f =
     let rest = all-literals r P n (λ i h. f i (omega arith)) in
-    elim (bit r.named n) as (λ b. All P (cond b (literal_at r n ∷ literals r n) (literals r n))) [ true ↦ (f n (omega arith), rest) | false ↦ rest ]
+    elim (bit r.named n) as (λ b. AllByRecursion P (cond b (literal_at r n ∷ literals r n) (literals r n))) [ true ↦ (f n (omega arith), rest) | false ↦ rest ]

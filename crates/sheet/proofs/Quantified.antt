@@ -1,6 +1,6 @@
 -- Tests of some or of every element of a list: their duals, and one step of a loop.
 use Rattle.std.proofs.Common.{◌≡◌, ℕ, ◌+◌, ◌<◌, ◌≤◌, Bool, true, false, not, ◌&&◌, ◌||◌, List, [], ◌∷◌, length, get_or, drop, sym, refl, ap, ◌∙◌, ⊎_elim, arith}
-use Rattle.std.specs.List.{AllByRecursion as All}
+use Rattle.std.specs.List.{AllByRecursion}
 use Rattle.std.proofs.lemmas.List.{at_drop_more, at_drop_all}
 use Rattle.std.proofs.lemmas.Bool.{and_parts, and_left, and_right, or_cases, or_from, or_left}
 use Rattle.sheet.specs.Rules.{some, every}
@@ -14,13 +14,13 @@ or_dual true b = refl
 or_dual false b = refl
 
 -- Where p is the contrary of q at each element, so are the two tests of the list.
-pub every_dual : {A : Type 0} (p q : A → Bool) (xs : List A) → All (λ x. p x ≡ not (q x)) xs → every xs p ≡ not (some xs q)
+pub every_dual : {A : Type 0} (p q : A → Bool) (xs : List A) → AllByRecursion (λ x. p x ≡ not (q x)) xs → every xs p ≡ not (some xs q)
 every_dual p q [] h = refl
 every_dual p q (x ∷ xs) h =
     ap (λ (b : Bool). b && every xs p) h.0 ∙ ap (λ (b : Bool). not (q x) && b) (every_dual p q xs h.1)
     ∙ and_dual (q x) (some xs q)
 
-pub some_dual : {A : Type 0} (p q : A → Bool) (xs : List A) → All (λ x. p x ≡ not (q x)) xs → some xs p ≡ not (every xs q)
+pub some_dual : {A : Type 0} (p q : A → Bool) (xs : List A) → AllByRecursion (λ x. p x ≡ not (q x)) xs → some xs p ≡ not (every xs q)
 some_dual p q [] h = refl
 some_dual p q (x ∷ xs) h =
     ap (λ (b : Bool). b || some xs p) h.0 ∙ ap (λ (b : Bool). not (q x) || b) (some_dual p q xs h.1)

@@ -2,7 +2,7 @@
 -- part line where no line from there on is.
 use Rattle.std.proofs.Common.{◌≡◌, ℕ, zero, suc, ◌≤◌, min, Bool, true, false, not, ◌&&◌, leb, List, [], ◌∷◌, ◌++◌, length, sym, refl, ap, ◌∙◌, arith}
 use mathlib.Core.Bool.{beq}
-use Rattle.std.specs.List.{AllByRecursion as All}
+use Rattle.std.specs.List.{AllByRecursion}
 use Rattle.std.proofs.lemmas.List.{get_or_append_left}
 use Rattle.std.proofs.lemmas.Bool.{and_parts, and_right, not-true, le-leb, leb-true}
 use Rattle.prefix.specs.Bits.{bits}
@@ -23,7 +23,7 @@ decided v l h =
     let e = le-leb l.position (length v) h in
     ap (λ (b : Bool). b && not same) e ∙ sym (ap (λ (b : Bool). not (b && same)) e)
 
-all_decided : (r : Rule) (n : ℕ) (v : List Bool) → length v ≡ n → All (λ l. fails v l ≡ not (holds v l)) (literals r n)
+all_decided : (r : Rule) (n : ℕ) (v : List Bool) → length v ≡ n → AllByRecursion (λ l. fails v l ≡ not (holds v l)) (literals r n)
 all_decided r n v e = all-literals r (λ l. fails v l ≡ not (holds v l)) n (λ i h. decided v (literal_at r i) (omega arith))
 
 value_append : (u rest : List Bool) (k : ℕ) → k ≤ length u → value_at (u ++ rest) k ≡ value_at u k
@@ -39,7 +39,7 @@ lost u rest l h =
     and_right (leb l.position (length (u ++ rest))) (same (u ++ rest))
     (ap (λ (b : Bool). beq b l.wanted) e ∙ not-true (same u) both.1)
 
-each : {A : Type 0} (P : A → Type 0) → ((x : A) → P x) → (xs : List A) → All P xs
+each : {A : Type 0} (P : A → Type 0) → ((x : A) → P x) → (xs : List A) → AllByRecursion P xs
 each P f [] = tt
 each P f (x ∷ xs) = (f x, each P f xs)
 

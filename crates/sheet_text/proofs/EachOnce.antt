@@ -2,7 +2,7 @@
 use Rattle.std.proofs.Common.{◌≡◌, ℕ, zero, suc, ◌≤◌, true, false, cond, eqb, List, [], ◌∷◌, length, sym, refl, ap, ◌∙◌, subst, ⊎_elim, arith}
 use Rattle.std.proofs.lemmas.List.{length-map}
 use Rattle.std.proofs.lemmas.Bool.{cases_Bool, cases_eq, cond-true, cond-false, eqb-true, eqb-false}
-use Rattle.std.specs.List.{AllByRecursion as All}
+use Rattle.std.specs.List.{AllByRecursion}
 use Rattle.prefix.specs.declared.kind.Kind.TheVariants.{Reply}
 use Rattle.sheet_text.specs.Grammar.{Variable, variable, order, one_more, position_in, Once, Ranges, EachNamed}
 use Rattle.sheet_text.proofs.Naming.{absent_parts, position_after}
@@ -53,15 +53,15 @@ removed_once v (q ∷ qs) o =
     (λ (f : eqb v q.name ≡ false). subst Once (sym (removed_later v q qs f)) (removed_absent v q.name qs o.0, removed_once v qs o.1))
     (cases_Bool (eqb v q.name))
 
-removed_all : (P : Variable → Type 0) (v : ℕ) (qs : List Variable) → All P qs → All P (removed v qs)
+removed_all : (P : Variable → Type 0) (v : ℕ) (qs : List Variable) → AllByRecursion P qs → AllByRecursion P (removed v qs)
 removed_all P v [] h = tt
 removed_all P v (q ∷ qs) h =
-    ⊎_elim (λ (t : eqb v q.name ≡ true). subst (All P) (sym (removed_here v q qs t)) h.1)
-    (λ (f : eqb v q.name ≡ false). subst (All P) (sym (removed_later v q qs f)) (h.0, removed_all P v qs h.1))
+    ⊎_elim (λ (t : eqb v q.name ≡ true). subst (AllByRecursion P) (sym (removed_here v q qs t)) h.1)
+    (λ (f : eqb v q.name ≡ false). subst (AllByRecursion P) (sym (removed_later v q qs f)) (h.0, removed_all P v qs h.1))
     (cases_Bool (eqb v q.name))
 
 -- Without the last variable the others come before it.
-narrower : (n : ℕ) (qs : List Variable) → All (λ q. Ranges (suc n) q.name) qs → position_in qs (suc n) ≡ 0 → All (λ q. Ranges n q.name) qs
+narrower : (n : ℕ) (qs : List Variable) → AllByRecursion (λ q. Ranges (suc n) q.name) qs → position_in qs (suc n) ≡ 0 → AllByRecursion (λ q. Ranges n q.name) qs
 narrower n [] r e = tt
 narrower n (q ∷ qs) r e =
     let apart = absent_parts q qs (suc n) e in
@@ -69,7 +69,7 @@ narrower n (q ∷ qs) r e =
     ((r.0.0, omega (arith, r.0.1)), narrower n qs r.1 apart.1)
 
 -- At most n variables from 1 to n are all different.
-at_most : (n : ℕ) (qs : List Variable) → Once qs → All (λ q. Ranges n q.name) qs → length qs ≤ n
+at_most : (n : ℕ) (qs : List Variable) → Once qs → AllByRecursion (λ q. Ranges n q.name) qs → length qs ≤ n
 at_most zero [] o r = omega arith
 at_most zero (q ∷ qs) o r = absurd (omega (arith, r.0.0, r.0.1))
 at_most (suc n) qs o r =

@@ -1,7 +1,7 @@
 -- How the lines of a text are read, section by section.
 use Rattle.std.proofs.Common.{◌≡◌, ℕ, ◌+◌, ◌<◌, ◌≤◌, false, List, [], ◌∷◌, ◌++◌, map, length, Some, None, Ok, sym, refl, ap, ◌∙◌, subst, ⊎_elim, arith}
 use Rattle.std.proofs.lemmas.List.{append_assoc, append-nil}
-use Rattle.std.specs.List.{AllByRecursion as All}
+use Rattle.std.specs.List.{AllByRecursion}
 use Rattle.prefix.specs.declared.kind.Kind.{Kind}
 use Rattle.sheet.specs.Literals.{Distinct}
 use Rattle.sheet.specs.declared.literal.Literal.{Literal}
@@ -62,7 +62,7 @@ pub record RulesOver (m after : Reader) (count : ℕ) (qs : List Variable) : Typ
 module _ (qs : List Variable) where
   pub rules_forth : (raw : List (List (List ℕ))) (rules : List (List Signed)) (m : Reader) (done : List (List Literal)) (ts : Tokens) → Lined raw ts → non_empty raw ≡ map rule_line rules
       → m.mode ≡ mode.LineStart → (m.section ≡ Opening → ⊥) → m.named ≡ m.length → Knows m qs → m.length ≤ 24 → m.read + length rules ≤ m.rules
-      → All (All (λ l. Ranges m.length l.variable)) rules → All Distinct (map (map (placed qs)) rules)
+      → AllByRecursion (AllByRecursion (λ l. Ranges m.length l.variable)) rules → AllByRecursion Distinct (map (map (placed qs)) rules)
       → (after : Reader) × (run (progress m [] done) ts ≡ Ok (progress after [] (done ++ map (map (placed qs)) rules))) × RulesOver m after (length rules) qs
   rules_forth [] [] m done ts l e at late named h short few known d = (
     m,
@@ -123,8 +123,8 @@ letters_quantify m ls done v w p q = by (first_word w) refl q
 pub record RulesRead (qs : List Variable) (raw : List (List (List ℕ))) (m : Reader) (done : List (List Literal)) (z : Progress) : Type 0 where
   pub rules : List (List Signed)
   pub lines : non_empty raw ≡ map rule_line rules
-  pub known : All (All (λ l. Ranges m.length l.variable)) rules
-  pub distinct : All Distinct (map (map (placed qs)) rules)
+  pub known : AllByRecursion (AllByRecursion (λ l. Ranges m.length l.variable)) rules
+  pub distinct : AllByRecursion Distinct (map (map (placed qs)) rules)
   pub result : z.rules ≡ done ++ map (map (placed qs)) rules
   pub over : RulesOver m z.reader (length rules) qs
 
@@ -162,7 +162,7 @@ sound_over m s = record {
 module _ (qs : List Variable) where
   -- The rules from a first one on.
   pub rules_from : (raw : List (List (List ℕ))) (ws : List (List ℕ)) (m : Reader) (done : List (List Literal)) (z : Progress) (first : List Signed)
-      → ws ≡ rule_line first → All (λ l. Ranges m.length l.variable) first → Distinct (map (placed qs) first)
+      → ws ≡ rule_line first → AllByRecursion (λ l. Ranges m.length l.variable) first → Distinct (map (placed qs) first)
       → RulesRead qs raw (over_rule (ruling m)) (done ++ map (placed qs) first ∷ []) z → (w : List ℕ) (rest : List (List ℕ)) → ws ≡ w ∷ rest → RulesRead qs ((w ∷ rest) ∷ raw) m done z
   rules_from raw ws m done z first words known distinct go w rest is = record {
     rules = first ∷ go.rules;

@@ -6,7 +6,7 @@ use Rattle.std.proofs.lemmas.Nat.{div-mul-add, mod-mul-add}
 use Rattle.std.proofs.ByRecursion.{All-push}
 use Rattle.std.proofs.lemmas.List.{length_push, map_push, get_or-set_same, get_or-set_other}
 use Rattle.std.proofs.lemmas.Bool.{cond-true, cond-false, cases_eq, cases_Bool, eq-eqb, ne_eqb, eqb-false}
-use Rattle.std.specs.List.{AllByRecursion as All}
+use Rattle.std.specs.List.{AllByRecursion}
 use Rattle.prefix.proofs.Masks.{bits_push, bits_same, bit_past, bit_mod_in}
 use Rattle.prefix.proofs.Positions.{count-whole}
 use Rattle.prefix.specs.Bits.{odd, bit, bits}
@@ -106,7 +106,7 @@ pub record Knows (m : Reader) (qs : List Variable) : Type 0 where
   pub count : m.named ≡ length qs
   pub kinds : kinds_of (length qs) m.reports ≡ map (λ q. q.kind) qs
   pub mask : m.reports < 2 ^ length qs
-  pub range : All (λ q. Ranges m.length q.name) qs
+  pub range : AllByRecursion (λ q. Ranges m.length q.name) qs
   pub once : Once qs
 
 pub knows_none : (m : Reader) → m.named ≡ 0 → m.reports ≡ 0 → ((i : ℕ) → position_at m i ≡ 0) → Knows m []

@@ -2,7 +2,7 @@
 use Rattle.std.proofs.Common.{◌≡◌, ℕ, suc, ◌-◌, ◌<◌, ◌≤◌, Bool, true, false, cond, not, eqb, ltb, ◌⊎◌, List, [], ◌∷◌, ◌++◌, map, is_some, Some, None, Ok, Err, codes, decimal, Option, Result, sym, refl, ap, ◌∙◌, subst, inl, inr, ⊎_elim, arith}
 use Rattle.std.proofs.lemmas.List.{append_assoc, append-nil}
 use Rattle.std.proofs.lemmas.Bool.{cond-true, cond-false, cond_both, cases_eq, eqb-true, eqb-false, eq-eqb, ne_eqb, ltb-true, ltb-false, lt-ltb, le-ltb, true≢false}
-use Rattle.std.specs.List.{AllByRecursion as All}
+use Rattle.std.specs.List.{AllByRecursion}
 use Rattle.sheet.proofs.Collected.{distinct_push, distinct_at}
 use Rattle.sheet.specs.Literals.{InRange, Distinct, lookup}
 use Rattle.sheet.specs.declared.literal.Literal.{Literal}
@@ -67,7 +67,7 @@ is_some_none (Some b) e = absurd (true≢false e)
 
 module _ (qs : List Variable) (done : List (List Literal)) (rest : Tokens) where
   pub rule_forth : (ss : List Signed) (m : Reader) (ls : List Literal) (ts : Tokens) → Line (map signed_word ss ++ codes "0" ∷ []) ts rest → m.mode ≡ mode.Literals
-      → Knows m qs → m.length ≤ 24 → All (λ l. Ranges m.length l.variable) ss → Distinct (ls ++ map (placed qs) ss)
+      → Knows m qs → m.length ≤ 24 → AllByRecursion (λ l. Ranges m.length l.variable) ss → Distinct (ls ++ map (placed qs) ss)
       → run (progress m ls done) ts ≡ run (progress (over_rule m) [] (done ++ (ls ++ map (placed qs) ss) ∷ [])) rest
   rule_forth [] m ls ts l at h short range d =
       let w = sort_word (codes "0") l.0 in
@@ -107,7 +107,7 @@ module _ (qs : List Variable) (done : List (List Literal)) (rest : Tokens) where
   pub record RuleRead (ws : List (List ℕ)) (m : Reader) (ls : List Literal) (z : Progress) : Type 0 where
     pub literals : List Signed
     pub words : ws ≡ map signed_word literals ++ codes "0" ∷ []
-    pub known : All (λ l. Ranges m.length l.variable) literals
+    pub known : AllByRecursion (λ l. Ranges m.length l.variable) literals
     pub distinct : Distinct (ls ++ map (placed qs) literals)
     pub onward : run (progress (over_rule m) [] (done ++ (ls ++ map (placed qs) literals) ∷ [])) rest ≡ Ok z
 
@@ -224,7 +224,7 @@ module _ (m : Reader) (ls : List Literal) (done : List (List Literal)) (ts rest 
       by (Err f) is v q = absurd (err_ok f v (sym (ap (λ o. given (progress m ls done) (opened o (number n p))) is) ∙ q))
 
 -- The first word of a rule is a number.
-pub first_number : (ss : List Signed) (ts rest : Tokens) (n : ℕ) → All (λ l. Ranges n l.variable) ss → n ≤ 24 → Line (map signed_word ss ++ codes "0" ∷ []) ts rest
+pub first_number : (ss : List Signed) (ts rest : Tokens) (n : ℕ) → AllByRecursion (λ l. Ranges n l.variable) ss → n ≤ 24 → Line (map signed_word ss ++ codes "0" ∷ []) ts rest
     → (x : Number) × (p : ℕ) × (after : Tokens) × (ts ≡ next (number x p) after)
 first_number [] ts rest n known short l =
     (plain 0, l.0, l.1, l.2 ∙ ap (λ w. next w l.1) (ap (λ (t : List ℕ). sort_word t l.0) (sym zero_word) ∙ sort_decimal 0 l.0 (omega arith)))

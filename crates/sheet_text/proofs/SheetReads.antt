@@ -1,7 +1,7 @@
 -- How the quantifier lines of a text are read, with the rules after them.
 use Rattle.std.proofs.Common.{◌≡◌, ℕ, ◌+◌, ◌≤◌, false, List, [], ◌∷◌, ◌++◌, map, length, Some, None, Ok, sym, refl, ap, ◌∙◌, subst, ⊎_elim, arith}
 use Rattle.std.proofs.lemmas.List.{append_assoc, append-nil}
-use Rattle.std.specs.List.{AllByRecursion as All}
+use Rattle.std.specs.List.{AllByRecursion}
 use Rattle.prefix.specs.Kinds.{report_count}
 use Rattle.prefix.specs.declared.kind.Kind.{Kind}
 use Rattle.sheet.specs.Literals.{Distinct}
@@ -41,20 +41,20 @@ order-more : (qs : List Variable) (q : Quantifier) (quants : List Quantifier) �
 order-more qs q quants = append_assoc qs (map (variable q.kind) q.variables) (order quants)
 
 -- Facts on an order, of its front.
-range_front : (n : ℕ) (k : Kind) (vs : List ℕ) (ys : List Variable) → All (λ q. Ranges n q.name) (map (variable k) vs ++ ys) → All (Ranges n) vs × All (λ q. Ranges n q.name) ys
+range_front : (n : ℕ) (k : Kind) (vs : List ℕ) (ys : List Variable) → AllByRecursion (λ q. Ranges n q.name) (map (variable k) vs ++ ys) → AllByRecursion (Ranges n) vs × AllByRecursion (λ q. Ranges n q.name) ys
 range_front n k [] ys r = (tt, r)
 range_front n k (v ∷ vs) ys r = let go = range_front n k vs ys r.1 in ((r.0, go.0), go.1)
 
 -- What is wanted of lines that are still to come.
 pub record Fit (m : Reader) (qs : List Variable) (quants : List Quantifier) (rules : List (List Signed)) : Type 0 where
-  pub some : All (λ q. 1 ≤ length q.variables) quants
-  pub range : All (λ q. Ranges m.length q.name) (order quants)
+  pub some : AllByRecursion (λ q. 1 ≤ length q.variables) quants
+  pub range : AllByRecursion (λ q. Ranges m.length q.name) (order quants)
   pub once : Once (qs ++ order quants)
   pub reports : report_count (kinds_in (qs ++ order quants)) ≤ 12
   pub count : length (qs ++ order quants) ≡ m.length
   pub few : m.read + length rules ≤ m.rules
-  pub known : All (All (λ l. Ranges m.length l.variable)) rules
-  pub distinct : All Distinct (map (map (placed (qs ++ order quants))) rules)
+  pub known : AllByRecursion (AllByRecursion (λ l. Ranges m.length l.variable)) rules
+  pub distinct : AllByRecursion Distinct (map (map (placed (qs ++ order quants))) rules)
 
 -- A reader that has read the header and lines of this kind.
 pub record Quantifying (m : Reader) (qs : List Variable) : Type 0 where
@@ -69,13 +69,13 @@ fit_next m after qs q quants rules f l =
     let to = sym (order-more qs q quants) in
     record {
       some = f.some.1;
-      range = subst (λ (n : ℕ). All (λ q. Ranges n q.name) (order quants)) (sym l.length) (range_front m.length q.kind q.variables (order quants) f.range).1;
+      range = subst (λ (n : ℕ). AllByRecursion (λ q. Ranges n q.name) (order quants)) (sym l.length) (range_front m.length q.kind q.variables (order quants) f.range).1;
       once = subst Once to f.once;
       reports = subst (λ (qs : List Variable). report_count (kinds_in qs) ≤ 12) to f.reports;
       count = ap length (order-more qs q quants) ∙ f.count ∙ sym l.length;
       few = omega (arith, f.few, l.read, l.rules);
-      known = subst (λ (n : ℕ). All (All (λ l. Ranges n l.variable)) rules) (sym l.length) f.known;
-      distinct = subst (λ (qs : List Variable). All Distinct (map (map (placed qs)) rules)) to f.distinct;
+      known = subst (λ (n : ℕ). AllByRecursion (AllByRecursion (λ l. Ranges n l.variable)) rules) (sym l.length) f.known;
+      distinct = subst (λ (qs : List Variable). AllByRecursion Distinct (map (map (placed qs)) rules)) to f.distinct;
     }
 
 -- The front of an order has no more reports than the whole.
@@ -88,7 +88,7 @@ pub sheet_forth : (raw : List (List (List ℕ))) (quants : List Quantifier) (rul
 sheet_forth raw [] rules m qs ts l e h f =
     let nil : qs ++ [] ≡ qs = append-nil qs in
     let named : m.named ≡ m.length = h.knows.count ∙ sym (ap length nil) ∙ f.count in
-    let go = rules_forth qs raw rules m [] ts l e h.mode (not_opening_too h.section) named h.knows h.sound.short f.few f.known (subst (λ (qs : List Variable). All Distinct (map (map (placed qs)) rules)) nil f.distinct) in
+    let go = rules_forth qs raw rules m [] ts l e h.mode (not_opening_too h.section) named h.knows h.sound.short f.few f.known (subst (λ (qs : List Variable). AllByRecursion Distinct (map (map (placed qs)) rules)) nil f.distinct) in
     (go.0, go.1 ∙ ap (λ (qs : List Variable). Ok (progress go.0 [] (map (map (placed qs)) rules))) (sym nil), subst (λ (qs : List Variable). RulesOver m go.0 (length rules) qs) (sym nil) go.2)
 sheet_forth [] (q ∷ quants) rules m qs ts l e h f = absurd (nil_cons e)
 sheet_forth ([] ∷ raw) (q ∷ quants) rules m qs ts l e h f =
@@ -125,10 +125,10 @@ pub record SheetRead (qs : List Variable) (raw : List (List (List ℕ))) (m : Re
   pub quantifiers : List Quantifier
   pub rules : List (List Signed)
   pub lines : non_empty raw ≡ map quantifier_line quantifiers ++ map rule_line rules
-  pub some : All (λ q. 1 ≤ length q.variables) quantifiers
+  pub some : AllByRecursion (λ q. 1 ≤ length q.variables) quantifiers
   pub reports : report_count (kinds_in (qs ++ order quantifiers)) ≤ 12
-  pub known : All (All (λ l. Ranges m.length l.variable)) rules
-  pub distinct : All Distinct (map (map (placed (qs ++ order quantifiers))) rules)
+  pub known : AllByRecursion (AllByRecursion (λ l. Ranges m.length l.variable)) rules
+  pub distinct : AllByRecursion Distinct (map (map (placed (qs ++ order quantifiers))) rules)
   pub result : z.rules ≡ map (map (placed (qs ++ order quantifiers))) rules
   pub over : RulesOver m z.reader (length rules) (qs ++ order quantifiers)
 
@@ -142,7 +142,7 @@ only-rules qs raw m z few r =
       some = tt;
       reports = subst (λ (qs : List Variable). report_count (kinds_in qs) ≤ 12) nil few;
       known = r.known;
-      distinct = subst (λ (qs : List Variable). All Distinct (map (map (placed qs)) r.rules)) nil r.distinct;
+      distinct = subst (λ (qs : List Variable). AllByRecursion Distinct (map (map (placed qs)) r.rules)) nil r.distinct;
       result = r.result ∙ ap (λ (qs : List Variable). map (map (placed qs)) r.rules) nil;
       over = subst (λ (qs : List Variable). RulesOver m z.reader (length r.rules) qs) nil r.over;
     }
@@ -158,8 +158,8 @@ line_before qs raw m after z q w ws is one l r =
       lines = λ i. is i ∷ r.lines i;
       some = (one, r.some);
       reports = subst (λ (qs : List Variable). report_count (kinds_in qs) ≤ 12) to r.reports;
-      known = subst (λ (n : ℕ). All (All (λ l. Ranges n l.variable)) r.rules) l.length r.known;
-      distinct = subst (λ (qs : List Variable). All Distinct (map (map (placed qs)) r.rules)) to r.distinct;
+      known = subst (λ (n : ℕ). AllByRecursion (AllByRecursion (λ l. Ranges n l.variable)) r.rules) l.length r.known;
+      distinct = subst (λ (qs : List Variable). AllByRecursion Distinct (map (map (placed qs)) r.rules)) to r.distinct;
       result = r.result ∙ ap (λ (qs : List Variable). map (map (placed qs)) r.rules) to;
       over = record {
         form = r.over.form ∙ l.form;

@@ -2,7 +2,7 @@
 use Rattle.std.proofs.Common.{◌≡◌, ℕ, ◌^◌, ◌<◌, ◌≤◌, eqb, ◌⊎◌, ◌↔◌, List, [], ◌∷◌, ◌++◌, map, length, replicate, Some, None, Ok, Err, codes, Result, sym, refl, ap, ◌∙◌, subst, inl, inr, ⊎_elim, arith}
 use Rattle.std.proofs.lemmas.List.{length-map}
 use Rattle.std.proofs.lemmas.Bool.{cond-true, cond_both, eqb-true, eq-eqb}
-use Rattle.std.specs.List.{AllByRecursion as All}
+use Rattle.std.specs.List.{AllByRecursion}
 use Rattle.prefix.proofs.Positions.{length-kinds}
 use Rattle.prefix.specs.Kinds.{report_count}
 use Rattle.prefix.specs.Limits.{Limits}
@@ -37,7 +37,7 @@ use Rattle.sheet_text.proofs.WordReads.{sort_cases, sort_c, sort_p, begins_with}
 
 -- Comments and the header are read where the lines begin with them.
 opening_forth : (raw comments : List (List (List ℕ))) (f : Form) (n r : ℕ) (tail : List (List (List ℕ))) (ts : Tokens) → Lined raw ts → non_empty raw ≡ comments ++ header_line f n r ∷ tail
-    → All Comment comments → 1 ≤ n → n ≤ 24 → r ≤ 256
+    → AllByRecursion Comment comments → 1 ≤ n → n ≤ 24 → r ≤ 256
     → (left : List (List (List ℕ))) × (rest : Tokens) × Lined left rest × (non_empty left ≡ tail) × (run begin ts ≡ run (progress (headed f n r) [] []) rest)
 opening_forth [] [] f n r tail ts l e c low high few = absurd (nil_cons e)
 opening_forth [] (x ∷ comments) f n r tail ts l e c low high few = absurd (nil_cons e)
@@ -76,7 +76,7 @@ record OpeningRead (raw : List (List (List ℕ))) (z : Progress) : Type 0 where
   rest : Tokens
   lined : Lined left rest
   lines : non_empty raw ≡ comments ++ header_line form positions rules ∷ non_empty left
-  commented : All Comment comments
+  commented : AllByRecursion Comment comments
   some : 1 ≤ positions
   short : positions ≤ 24
   few : rules ≤ 256
@@ -234,11 +234,11 @@ read-says t z e =
         commented = o.commented;
         some = r.some;
         kinds = kinds-is;
-        named = subst (λ (n : ℕ). All (λ q. Ranges n q.name) qs) (sym long) k.range;
+        named = subst (λ (n : ℕ). AllByRecursion (λ q. Ranges n q.name) qs) (sym long) k.range;
         once = k.once;
         literals = r.result;
-        known = subst (λ (n : ℕ). All (All (λ l. Ranges n l.variable)) r.rules) (sym (long ∙ n-is)) r.known;
-        distinct = subst (All Distinct) (sym r.result) r.distinct;
+        known = subst (λ (n : ℕ). AllByRecursion (AllByRecursion (λ l. Ranges n l.variable)) r.rules) (sym (long ∙ n-is)) r.known;
+        distinct = subst (AllByRecursion Distinct) (sym r.result) r.distinct;
         positions = (omega (arith, o.some, long, n-is), omega (arith, o.short, long, n-is));
         reports = subst (λ (ks : List Kind). report_count ks ≤ 12) (sym kinds-is) r.reports;
         few = omega (arith, rules-is, o.few);
@@ -265,7 +265,7 @@ says-read t s h =
       count = long;
       few = omega arith;
       known = h.known;
-      distinct = subst (All Distinct) h.literals h.distinct;
+      distinct = subst (AllByRecursion Distinct) h.literals h.distinct;
     }) in
     let m = go.0 in
     let over = go.2 in

@@ -3,7 +3,7 @@ use Rattle.std.proofs.Common.{◌≡◌, ℕ, suc, ◌+◌, ◌-◌, ◌<◌, �
 use lib.Count.{ones}
 use Rattle.std.proofs.lemmas.List.{append_assoc, append-nil, map-append}
 use Rattle.std.proofs.lemmas.Bool.{cond-true, cond-false, cond_both, cases_Bool, eqb-true, eqb-false, eq-eqb, ne_eqb, ltb-false, le-ltb, leb-false, lt-leb, false≢true}
-use Rattle.std.specs.List.{AllByRecursion as All}
+use Rattle.std.specs.List.{AllByRecursion}
 use Rattle.prefix.specs.Kinds.{report_count}
 use Rattle.prefix.specs.declared.kind.Kind.{Kind}
 use Rattle.prefix.specs.declared.kind.Kind.TheVariants.{Report, Reply}
@@ -124,7 +124,7 @@ line_after m after k v qs rest l = record {
 
 module _ (k : Kind) (ls : List Literal) (done : List (List Literal)) (rest : Tokens) where
   pub variables_forth : (vs : List ℕ) (m : Reader) (some : Bool) (qs : List Variable) (ts : Tokens) → Line (map decimal vs ++ codes "0" ∷ []) ts rest
-      → m.mode ≡ mode.Variables k some → Sound m → Knows m qs → (some ≡ false → 1 ≤ length vs) → All (Ranges m.length) vs → Once (qs ++ map (variable k) vs)
+      → m.mode ≡ mode.Variables k some → Sound m → Knows m qs → (some ≡ false → 1 ≤ length vs) → AllByRecursion (Ranges m.length) vs → Once (qs ++ map (variable k) vs)
       → report_count (kinds_in (qs ++ map (variable k) vs)) ≤ 12
       → (after : Reader) × (run (progress m ls done) ts ≡ run (progress after ls done) rest) × LineRead m after (qs ++ map (variable k) vs)
   variables_forth [] m some qs ts l at s h one range once few =

@@ -1,6 +1,6 @@
 -- The grammar of a sheet's text: which text says which sheet.
 use Rattle.std.specs.Prelude.{◌≡◌, ℕ, zero, suc, ◌≤◌, Bool, cond, ◌⊎◌, ◌↔◌, List, [], ◌∷◌, ◌++◌, map, length, Ok, codes, decimal, ◌==◌}
-use Rattle.std.specs.List.{AllByRecursion as All}
+use Rattle.std.specs.List.{AllByRecursion}
 use Rattle.prefix.specs.Kinds.{report_count}
 use Rattle.prefix.specs.declared.kind.Kind.{Kind}
 use Rattle.prefix.specs.declared.kind.Kind.TheVariants.{Report, Reply}
@@ -116,18 +116,18 @@ pub record Says (t : List ℕ) (s : Sheet) : Type 0 where
   pub quantifiers : List Quantifier
   pub rules : List (List Signed)
   -- its bytes, and its lines
-  pub allowed : All Allowed t
+  pub allowed : AllByRecursion Allowed t
   pub lines : lines_of t ≡ comments ++ header_line s.form (length s.kinds) (length s.rules) ∷ (map quantifier_line quantifiers ++ map rule_line rules)
-  pub commented : All Comment comments
+  pub commented : AllByRecursion Comment comments
   -- the quantifier lines give the kinds of the positions
-  pub some : All (λ q. 1 ≤ length q.variables) quantifiers
+  pub some : AllByRecursion (λ q. 1 ≤ length q.variables) quantifiers
   pub kinds : s.kinds ≡ map (λ q. q.kind) (order quantifiers)
-  pub named : All (λ q. Ranges (length s.kinds) q.name) (order quantifiers)
+  pub named : AllByRecursion (λ q. Ranges (length s.kinds) q.name) (order quantifiers)
   pub once : Once (order quantifiers)
   -- the rules give the literals
   pub literals : s.rules ≡ map (map (placed (order quantifiers))) rules
-  pub known : All (All (λ l. Ranges (length s.kinds) l.variable)) rules
-  pub distinct : All Distinct s.rules
+  pub known : AllByRecursion (AllByRecursion (λ l. Ranges (length s.kinds) l.variable)) rules
+  pub distinct : AllByRecursion Distinct s.rules
   -- the limits
   pub positions : Ranges 24 (length s.kinds)
   pub reports : report_count s.kinds ≤ 12

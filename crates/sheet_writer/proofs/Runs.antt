@@ -1,6 +1,6 @@
 -- The quantifier lines of a sheet name the variables 1 to n in order, each with its kind.
 use Rattle.std.proofs.Common.{◌≡◌, ℕ, zero, suc, ◌+◌, ◌<◌, ◌≤◌, eqb, List, [], ◌∷◌, ◌++◌, map, length, refl, ap, ◌∙◌, arith}
-use Rattle.std.specs.List.{AllByRecursion as All}
+use Rattle.std.specs.List.{AllByRecursion}
 use Rattle.std.proofs.lemmas.Bool.{cond-true, cond-false, eq-eqb, ne_eqb}
 use Rattle.prefix.specs.declared.kind.Kind.{Kind}
 use Rattle.prefix.specs.declared.kind.Kind.TheVariants.{Report, Reply}
@@ -26,14 +26,14 @@ order-runs v (k ∷ ks) = ap (λ (x : List Variable). variable k v ∷ x) (order
 abbrev some_variable : Quantifier → Type 0
 some_variable q = 1 ≤ length q.variables
 
-some_after : (k : Kind) (v : ℕ) (ks : List Kind) → All some_variable (runs_after k v ks)
+some_after : (k : Kind) (v : ℕ) (ks : List Kind) → AllByRecursion some_variable (runs_after k v ks)
 some_after k v [] = tt
 some_after Report v (Report ∷ ks) = some_after Report (suc v) ks
 some_after Report v (Reply ∷ ks) = (omega arith, some_after Reply (suc v) ks)
 some_after Reply v (Report ∷ ks) = (omega arith, some_after Report (suc v) ks)
 some_after Reply v (Reply ∷ ks) = some_after Reply (suc v) ks
 
-pub some_runs : (v : ℕ) (ks : List Kind) → All (λ q. 1 ≤ length q.variables) (runs v ks)
+pub some_runs : (v : ℕ) (ks : List Kind) → AllByRecursion (λ q. 1 ≤ length q.variables) (runs v ks)
 some_runs v [] = tt
 some_runs v (k ∷ ks) = (omega arith, some_after k (suc v) ks)
 
@@ -41,7 +41,7 @@ pub kinds_from : (v : ℕ) (ks : List Kind) → ks ≡ map (λ q. q.kind) (varia
 kinds_from v [] = refl
 kinds_from v (k ∷ ks) = ap (λ (x : List Kind). k ∷ x) (kinds_from (suc v) ks)
 
-pub named_from : (n v : ℕ) (ks : List Kind) → 1 ≤ v → v + length ks ≤ suc n → All (λ q. Ranges n q.name) (variables_from v ks)
+pub named_from : (n v : ℕ) (ks : List Kind) → 1 ≤ v → v + length ks ≤ suc n → AllByRecursion (λ q. Ranges n q.name) (variables_from v ks)
 named_from n v [] low high = tt
 named_from n v (k ∷ ks) low high = ((low, omega arith), named_from n (suc v) ks (omega arith) (omega arith))
 
@@ -63,11 +63,11 @@ place_from v w (suc i) (k ∷ ks) e h =
     ∙ ap one_more (place_from (suc v) w i ks (omega arith) (omega arith))
 
 -- The variables of each quantifier line are among those that the lines name.
-split_named : (n : ℕ) (k : Kind) (vs : List ℕ) (rest : List Variable) → All (λ q. Ranges n q.name) (map (variable k) vs ++ rest)
-    → All (Ranges n) vs × All (λ q. Ranges n q.name) rest
+split_named : (n : ℕ) (k : Kind) (vs : List ℕ) (rest : List Variable) → AllByRecursion (λ q. Ranges n q.name) (map (variable k) vs ++ rest)
+    → AllByRecursion (Ranges n) vs × AllByRecursion (λ q. Ranges n q.name) rest
 split_named n k [] rest h = (tt, h)
 split_named n k (v ∷ vs) rest h = let s = split_named n k vs rest h.1 in ((h.0, s.0), s.1)
 
-pub named-lines : (n : ℕ) (qs : List Quantifier) → All (λ q. Ranges n q.name) (order qs) → All (λ q. All (Ranges n) q.variables) qs
+pub named-lines : (n : ℕ) (qs : List Quantifier) → AllByRecursion (λ q. Ranges n q.name) (order qs) → AllByRecursion (λ q. AllByRecursion (Ranges n) q.variables) qs
 named-lines n [] h = tt
 named-lines n (q ∷ qs) h = let s = split_named n q.kind q.variables (order qs) h in (s.0, named-lines n qs s.1)

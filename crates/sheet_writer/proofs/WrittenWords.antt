@@ -1,6 +1,6 @@
 -- The words of a sheet's lines are words: letters, digits and a minus.
 use Rattle.std.proofs.Common.{ℕ, ◌+◌, ◌%◌, ◌^◌, ◌<◌, ◌≤◌, Bool, true, false, cond, List, [], ◌∷◌, ◌++◌, map, codes, decimal, arith, length-append}
-use Rattle.std.specs.List.{AllByRecursion as All}
+use Rattle.std.specs.List.{AllByRecursion}
 use Rattle.std.proofs.lemmas.Fmt.{decimal_by_steps}
 use Rattle.std.proofs.ByRecursion.{All-map, All-push, All-weaker}
 use Rattle.prefix.specs.declared.kind.Kind.{Kind}
@@ -38,7 +38,7 @@ pub line_header : (f : Form) (n m : ℕ) → n ≤ 24 → m ≤ 256 → IsLine (
 line_header f n m few h =
     (omega arith, ((omega arith, ((omega arith, omega arith), tt)), (word_form f, (word_decimal n (omega arith), (word_decimal m (omega arith), tt)))))
 
-pub line_quantifier : (n : ℕ) (q : Quantifier) → n ≤ 24 → All (Ranges n) q.variables → IsLine (quantifier_line q)
+pub line_quantifier : (n : ℕ) (q : Quantifier) → n ≤ 24 → AllByRecursion (Ranges n) q.variables → IsLine (quantifier_line q)
 line_quantifier n q few h = (
   omega arith,
   (
@@ -48,7 +48,7 @@ line_quantifier n q few h = (
   ),
 )
 
-pub line_rule : (n : ℕ) (ls : List Signed) → n ≤ 24 → All (λ l. Ranges n l.variable) ls → IsLine (rule_line ls)
+pub line_rule : (n : ℕ) (ls : List Signed) → n ≤ 24 → AllByRecursion (λ l. Ranges n l.variable) ls → IsLine (rule_line ls)
 line_rule n ls few h = (
   simp length-append (omega arith),
   All-push IsWord (map signed_word ls) (codes "0")
