@@ -75,7 +75,7 @@ fn past_spaces(text: &[u8], at: usize) -> usize
 
 // Where the word ends that begins at `from`.
 fn word_end(text: &[u8], from: usize) -> Result<usize, TextFault>
-    requires { (from ≤ length text.now) × (((slice_index (ended text.now) from ≢ 32)) × ((slice_index (ended text.now) from ≢ 10))) }
+    requires { (from ≤ length text.now) × (slice_index (ended text.now) from ≢ 32) × (slice_index (ended text.now) from ≢ 10) }
     ensures { Scanned text.now from result }
 {
     let mut i = from;

@@ -23,10 +23,10 @@ pub order-runs : (v : ℕ) (ks : List Kind) → order (runs v ks) ≡ variables_
 order-runs v [] = refl
 order-runs v (k ∷ ks) = ap (λ (x : List Variable). variable k v ∷ x) (order_after k (suc v) ks)
 
-abbrev some_variable : Quantifier → Type 0
-some_variable q = 1 ≤ length q.variables
+abbrev SomeVariable : Quantifier → Type 0
+SomeVariable q = 1 ≤ length q.variables
 
-some_after : (k : Kind) (v : ℕ) (ks : List Kind) → AllByRecursion some_variable (runs_after k v ks)
+some_after : (k : Kind) (v : ℕ) (ks : List Kind) → AllByRecursion SomeVariable (runs_after k v ks)
 some_after k v [] = tt
 some_after Report v (Report ∷ ks) = some_after Report (suc v) ks
 some_after Report v (Reply ∷ ks) = (omega arith, some_after Reply (suc v) ks)

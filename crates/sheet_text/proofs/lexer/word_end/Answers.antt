@@ -5,7 +5,7 @@ use Rattle.sheet_text.proofs.lexer.word_end.Goals as goal
 pub returns-then-byte-eq32 : goal.returns-then-byte-eq32
 returns-then-byte-eq32 c =
     let end : (c.byte_at-byte.result ≡ 32) ⊎ (c.byte_at-byte.result ≡ 10) = ⊎_elim (λ e. inl e) (λ e. inr e.1) c.then-byte-eq32.either in
-    let some = scan_some c.args.text.now c.args.from c.loop-from.i c.byte_at-byte.result c.loop-from.invariant.0 c.byte_at-byte.ensures end c.requires.1.0 c.requires.1.1 in
+    let some = scan_some c.args.text.now c.args.from c.loop-from.i c.byte_at-byte.result c.loop-from.invariant.0 c.byte_at-byte.ensures end c.requires.1 c.requires.2 in
     (some, c.loop-from.invariant.1, scan_end c.args.text.now c.args.from c.loop-from.i c.byte_at-byte.result c.loop-from.invariant.0 c.loop-from.invariant.1 c.byte_at-byte.ensures end some c.loop-from.invariant.2)
 
 pub returns-then-byte-lt32 : goal.returns-then-byte-lt32
