@@ -1,11 +1,11 @@
 -- The kinds of a prefix against its mask.
-use Rattle.std.proofs.Common.{◌≡◌, ℕ, zero, suc, ◌+◌, ◌-◌, ◌*◌, ◌/◌, ◌%◌, ◌^◌, ◌<◌, ◌≤◌, min, Bool, true, false, not, eqb, ◌⊎◌, List, [], ◌∷◌, length, take, Some, None, sym, refl, ap, ◌∙◌, ⊎_elim, mod-eq_of_lt, pow-suc, add-one, arith, pow_mono}
+use Rattle.std.proofs.Common.{◌≡◌, ℕ, zero, suc, ◌+◌, ◌-◌, ◌*◌, ◌/◌, ◌%◌, ◌^◌, ◌<◌, ◌≤◌, min, Bool, true, false, eqb, ◌⊎◌, List, [], ◌∷◌, length, take, Some, None, sym, refl, ap, ◌∙◌, ⊎_elim, mod-eq_of_lt, pow-suc, add-one, arith, pow_mono}
 use lib.Count.{ones, ones_step}
 use Rattle.std.proofs.lemmas.Nat.{pow_pos, mod-pow-add}
 use Rattle.std.proofs.lemmas.List.{take_all}
 use Rattle.std.proofs.lemmas.Bool.{cases_lt}
 use Rattle.prefix.specs.Bits.{bit, mask_value}
-use Rattle.prefix.specs.Kinds.{kind_at, some_report, some_reply, is_report, is_reply, report_count, reports_before}
+use Rattle.prefix.specs.Kinds.{kind_at, some_report, is_report, report_count, reports_before}
 use Rattle.prefix.specs.Prefixes.{kind_of, kinds_of}
 use Rattle.prefix.specs.declared.kind.Kind.{Kind}
 use Rattle.prefix.specs.declared.kind.Kind.TheVariants.{Report, Reply}
@@ -40,16 +40,6 @@ value_report n m (suc i) h =
     ⊎_elim (λ (l : i < n). sym (ap some_report (kind-inside n m i l) ∙ report_of (bit m i)))
     (λ (l : n ≤ i). bit_past m n i h l ∙ sym (ap some_report (kind_past n m i l)))
     (cases_lt i n)
-
-reply_of : (b : Bool) → some_reply (Some (kind_of b)) ≡ not b
-reply_of true = refl
-reply_of false = refl
-
--- Inside the prefix a reply stands where no report does.
-pub reply_inside : (n m k i : ℕ) → k ≡ suc i → i < n → not (is_report (kinds_of n m) k) ≡ is_reply (kinds_of n m) k
-reply_inside n m k i e h =
-    let at : kind_at (kinds_of n m) k ≡ Some (kind_of (bit m i)) = ap (kind_at (kinds_of n m)) e ∙ kind-inside n m i h in
-    ap (λ q. not (some_report q)) at ∙ ap not (report_of (bit m i)) ∙ sym (ap some_reply at ∙ reply_of (bit m i))
 
 pub kind_from_report : (n m i : ℕ) (b : Bool) → i < n → b ≡ is_report (kinds_of n m) (suc i) → kind_at (kinds_of n m) (suc i) ≡ Some (kind_of b)
 kind_from_report n m i b h e =

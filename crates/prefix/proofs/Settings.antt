@@ -1,7 +1,12 @@
 -- Settings and numbers correspond one to one.
-use Rattle.std.proofs.Common.{◌≡◌, ℕ, zero, suc, ◌-◌, ◌^◌, ◌<◌, ◌≤◌, Bool, true, false, cond, List, [], ◌∷◌, length, sym, refl, ap, ◌∙◌, subst, ⊎_elim, pow-suc, arith}
+use Rattle.std.proofs.Common.{◌≡◌, ℕ, zero, suc, ◌-◌, ◌*◌, ◌%◌, ◌^◌, ◌<◌, ◌≤◌, Bool, true, false, cond, List, [], ◌∷◌, length, sym, refl, ap, ◌∙◌, subst, ⊎_elim, pow-suc, pow_mono, arith}
 use Rattle.std.proofs.lemmas.Bool.{cases_lt}
+use Rattle.std.proofs.lemmas.Nat.{one_shl}
+use lib.Count.{ones}
+use Rattle.prefix.specs.Kinds.{report_count}
+use Rattle.prefix.specs.Prefixes.{kinds_of}
 use Rattle.prefix.specs.Settings.{number, Numbering}
+use Rattle.prefix.proofs.Positions.{count-whole}
 
 cond_le : (x : Bool) (p : ℕ) → cond x p 0 ≤ p
 cond_le true p = omega arith
@@ -40,3 +45,10 @@ numbering r = record {
   apart = λ v w e f h. number-apart v w (e ∙ sym f) h;
   each = number-each r;
 }
+
+-- The settings of at most 12 reports, as the machine shifts them.
+pub few_settings : (r : ℕ) → r ≤ 12 → (1 * 2 ^ r) % 2 ^ 64 ≤ 4096
+few_settings r h = omega (arith, one_shl r 64 (omega arith), pow_mono h)
+
+pub settings_of : (n m : ℕ) → m < 2 ^ n → ones m ≤ 12 → (1 * 2 ^ ones m) % 2 ^ 64 ≡ 2 ^ report_count (kinds_of n m)
+settings_of n m h few = one_shl (ones m) 64 (omega arith) ∙ ap (λ (r : ℕ). 2 ^ r) (sym (count-whole n m h))

@@ -1,6 +1,7 @@
 pub mod Bits
 pub mod Limits
 pub mod Kinds
+pub mod KindWords
 pub mod Prefixes
 pub mod Settings
 pub mod Points

@@ -3,12 +3,16 @@ use Rattle.std.specs.Prelude.{ℕ, min, Bool, List, drop}
 use Rattle.prefix.specs.Bits.{bits}
 use Rattle.prefix.specs.Prefixes.{kinds}
 use Rattle.prefix.specs.declared.kind.Kind.{Kind}
-use Rattle.prefix.specs.declared.line.Line.{Line}
+use Rattle.prefix.specs.declared.part_line.PartLine.{PartLine}
 use Rattle.prefix.specs.declared.prefix.Prefix.{Prefix}
 
--- The first d values of a line; a length above the prefix's is read as that.
-abbrev pub part_line : Prefix → ℕ → Line → List Bool
-part_line p d l = bits (min d p.length) l.mask
+-- The values of a part line, of which there are n at most.
+abbrev pub values_within : ℕ → PartLine → List Bool
+values_within n u = bits (min u.length n) u.line.mask
+
+-- Its values on a prefix; a length above the prefix's is read as that.
+abbrev pub part_line : Prefix → PartLine → List Bool
+part_line p u = values_within p.length u
 
 -- The kinds still to come after d positions.
 abbrev pub kinds_after : Prefix → ℕ → List Kind

@@ -4,10 +4,12 @@
 
 pub mod kind;
 pub mod line;
+pub mod part_line;
 pub mod prefix;
 
 pub use kind::Kind;
 pub use line::{Line, first_positions};
+pub use part_line::PartLine;
 pub use prefix::Prefix;
 
 #[cfg(test)]

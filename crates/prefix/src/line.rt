@@ -23,6 +23,7 @@ impl Line {
     }
 
     // The value at a position; off at a number that is none.
+    #[tactic(auto, using(crate::proofs::Masks::value_outside))]
     pub fn value(self, position: usize) -> bool
         ensures { result ≡ mask_value self.mask position }
     {

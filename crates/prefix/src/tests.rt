@@ -25,9 +25,7 @@ fn a_prefix_keeps_its_limits(rt: HostRuntime) {
 // at position 4 for four.
 #[test]
 fn two_reports_and_two_replies(rt: HostRuntime) -> Result<(), Fail> {
-    let Some(prefix) = Prefix::new(4, 0b0101) else {
-        return Err(Fail::new("refused"));
-    };
+    let prefix = Prefix::new(4, 0b0101).ok_or("refused")?;
     for (position, kind, before) in [
         (0, None, 0),
         (1, Some(Kind::Report), 0),
@@ -47,9 +45,7 @@ fn two_reports_and_two_replies(rt: HostRuntime) -> Result<(), Fail> {
 
 #[test]
 fn twelve_reports_then_twelve_replies(rt: HostRuntime) -> Result<(), Fail> {
-    let Some(prefix) = Prefix::new(24, 0x000fff) else {
-        return Err(Fail::new("refused"));
-    };
+    let prefix = Prefix::new(24, 0x000fff).ok_or("refused")?;
     assert_eq!(rt; prefix.setting_count(), 4096);
     assert_eq!(rt; prefix.point_count(), 12 * 4096);
     Ok(())

@@ -42,6 +42,7 @@ impl Prefix {
     }
 
     // The kind of a position, 1 to n; `None` at any other number.
+    #[tactic(auto, using(crate::proofs::Positions::kind_outside, crate::proofs::Positions::kind_from_report))]
     pub fn kind(self, position: usize) -> Option<Kind>
         ensures { result ≡ kind_at (kinds self) position }
     {
@@ -56,6 +57,7 @@ impl Prefix {
     }
 
     // Whether a report stands at a position; no at a number that is none.
+    #[tactic(auto, using(crate::proofs::Positions::value_report))]
     pub fn is_report(self, position: usize) -> bool
         ensures { result ≡ is_report (kinds self) position }
     {
@@ -66,10 +68,7 @@ impl Prefix {
     pub fn is_reply(self, position: usize) -> bool
         ensures { result ≡ is_reply (kinds self) position }
     {
-        if position == 0 || position > self.length {
-            return false;
-        }
-        !self.is_report(position)
+        self.kind(position) == Some(Kind::Reply)
     }
 
     // How many reports stand before a position.
@@ -83,6 +82,7 @@ impl Prefix {
 
     // How many settings the reports have. Settings correspond to the numbers
     // below that, and a policy gives one line on each.
+    #[tactic(auto, using(crate::proofs::Settings::few_settings, crate::proofs::Settings::settings_of, crate::proofs::Settings::numbering, crate::proofs::Lines::one_line))]
     pub fn setting_count(self) -> usize
         ensures value { result ≡ 2 ^ report_count (kinds self) }
         ensures few { result ≤ 4096 }
@@ -98,13 +98,14 @@ impl Prefix {
         ensures { result ≡ point_count (kinds self) }
     {
         let mut points = 0;
-        for before in 0..self.length {
-            points += self.points_at(before + 1);
+        for position in 1..=self.length {
+            points += self.points_at(position);
         }
         points
     }
 
     // How many points a position has: one for each setting before a reply.
+    #[tactic(auto, using(crate::proofs::Settings::few_settings))]
     fn points_at(self, position: usize) -> usize
         ensures value { result ≡ points_at (kinds self) position }
         ensures few { result ≤ 4096 }
