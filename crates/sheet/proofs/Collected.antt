@@ -57,7 +57,7 @@ made_more ls l r r' h j =
     }
 
 -- Of distinct literals a rule of those before takes the next.
-pub made-next : (ls : List Literal) (l : Literal) (rest : List Literal) (r : Rule) → Made ls r → Distinct (ls ++ l ∷ rest) → Nameable r l
-made-next ls l rest r h d =
+pub made_next : (ls : List Literal) (l : Literal) (rest : List Literal) (r : Rule) → Made ls r → Distinct (ls ++ l ∷ rest) → Nameable r l
+made_next ls l rest r h d =
     let at = distinct_at l ls rest d in
     (at.0, h.wanted l.position ∙ at.1)

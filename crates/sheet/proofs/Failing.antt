@@ -7,13 +7,14 @@ use Rattle.std.proofs.lemmas.Nat.{and_le_l}
 use Rattle.std.proofs.lemmas.Bool.Decides.{same_from_decides}
 use Rattle.prefix.specs.Bits.{bit, bits}
 use Rattle.prefix.proofs.Masks.{and_bit, xor_bit, bit_mod_in, bit_mod_out, bit_past, bits-apart, length-bits, get_or-bits}
-use Rattle.sheet.specs.Rules.{fails, some, every, literal_at, literals}
+use Rattle.std.specs.List.{list_any, list_all}
+use Rattle.sheet.specs.Rules.{fails, literal_at, literals}
 use Rattle.sheet.specs.declared.rule.Rule.{Rule}
 use Rattle.sheet.proofs.Named.{decides_every, decides_some}
 
 -- A mask of 32 bits cut down to the first d positions.
-pub cut-bit : (m d first i : ℕ) → first ≡ 2 ^ min d 32 - 1 → m < 2 ^ 32 → bit (bit_and m first) i ≡ (ltb i d && bit m i)
-cut-bit m d first i e h =
+pub cut_bit : (m d first i : ℕ) → first ≡ 2 ^ min d 32 - 1 → m < 2 ^ 32 → bit (bit_and m first) i ≡ (ltb i d && bit m i)
+cut_bit m d first i e h =
     ap (λ (z : ℕ). bit z i) (ap (bit_and m) e ∙ and_mask m (min d 32))
     ∙ ⊎_elim
     (λ (l : i < min d 32). let k : i < d = omega arith in bit_mod_in m (min d 32) i l ∙ sym (ap (λ (b : Bool). b && bit m i) (lt-ltb i d k)))
@@ -41,7 +42,7 @@ pub failing_bit : (r : Rule) (d m line first i : ℕ) → line ≡ m → first �
 failing_bit r d m line first i same e h =
     let N = bit r.named i in
     let W = bit r.wanted i in
-    cut-bit (bit_and r.named (bit_xor line r.wanted)) d first i e (omega (arith, and_le_l r.named (bit_xor line r.wanted)))
+    cut_bit (bit_and r.named (bit_xor line r.wanted)) d first i e (omega (arith, and_le_l r.named (bit_xor line r.wanted)))
     ∙ ap (λ (b : Bool). ltb i d && b) (and_bit r.named (bit_xor line r.wanted) i ∙ ap (λ (b : Bool). N && b) (xor_bit line r.wanted i))
     ∙ ap (λ (z : ℕ). ltb i d && (N && not (beq (bit z i) W))) same
     ∙ and_turn (ltb i d) N (not (beq (bit m i) W)) ∙ ap (λ (b : Bool). N && b) (sym (fails-bit r d m i))
@@ -69,7 +70,7 @@ module _ (r : Rule) (n d m F : ℕ) (within : d ≤ n) (fits : F < 2 ^ 32)
       let l : i < d = ltb-true i d in-line in
       omega arith
 
-  none_is_zero : some (literals r n) (fails (bits d m)) ≡ false → F ≡ 0
+  none_is_zero : list_any (fails (bits d m)) (literals r n) ≡ false → F ≡ 0
   none_is_zero none = bits-apart 32 F 0 fits (omega arith) (λ i _. off i ∙ sym (no_bit i))
     where
       off : (i : ℕ) → bit F i ≡ false
@@ -77,25 +78,25 @@ module _ (r : Rule) (n d m F : ℕ) (within : d ≤ n) (fits : F < 2 ^ 32)
           ⊎_elim (λ (h : bit F i ≡ true). absurd (both_ways _ none ((decides_some r (fails (bits d m)) n).1 (i, near i h, parts i h))))
           (λ (h : bit F i ≡ false). h) (cases_Bool (bit F i))
 
-  some_not_zero : some (literals r n) (fails (bits d m)) ≡ true → F ≡ 0 → ⊥
+  some_not_zero : list_any (fails (bits d m)) (literals r n) ≡ true → F ≡ 0 → ⊥
   some_not_zero h z =
       let at = (decides_some r (fails (bits d m)) n).0 h in
       both_ways (bit F at.0) (ap (λ (f : ℕ). bit f at.0) z ∙ no_bit at.0) (whole at.0 at.2.0 at.2.1)
 
-  pub some-fails : not (eqb F 0) ≡ some (literals r n) (fails (bits d m))
-  some-fails =
-      ⊎_elim (λ (e : some (literals r n) (fails (bits d m)) ≡ true). ap not (ne_eqb F 0 (some_not_zero e)) ∙ sym e)
-      (λ (e : some (literals r n) (fails (bits d m)) ≡ false). ap not (eq-eqb F 0 (none_is_zero e)) ∙ sym e)
-      (cases_Bool (some (literals r n) (fails (bits d m))))
+  pub any_fails_lem : not (eqb F 0) ≡ list_any (fails (bits d m)) (literals r n)
+  any_fails_lem =
+      ⊎_elim (λ (e : list_any (fails (bits d m)) (literals r n) ≡ true). ap not (ne_eqb F 0 (some_not_zero e)) ∙ sym e)
+      (λ (e : list_any (fails (bits d m)) (literals r n) ≡ false). ap not (eq-eqb F 0 (none_is_zero e)) ∙ sym e)
+      (cases_Bool (list_any (fails (bits d m)) (literals r n)))
 
   -- C is the mask of all literals within n positions.
   module _ (C : ℕ) (small : C < 2 ^ 32) (cut : (i : ℕ) → bit C i ≡ (ltb i n && bit r.named i)) where
-    same_all : F ≡ C → every (literals r n) (fails (bits d m)) ≡ true
+    same_all : F ≡ C → list_all (fails (bits d m)) (literals r n) ≡ true
     same_all e =
         (decides_every r (fails (bits d m)) n).1
         (λ i l b. (parts i (ap (λ (f : ℕ). bit f i) e ∙ cut i ∙ and_from (ltb i n) (bit r.named i) (lt-ltb i n l) b)).1)
 
-    all_same : every (literals r n) (fails (bits d m)) ≡ true → F ≡ C
+    all_same : list_all (fails (bits d m)) (literals r n) ≡ true → F ≡ C
     all_same all = bits-apart 32 F C fits small (λ i _. same_tests (bit F i) (bit C i) (there i) (back i))
       where
         there : (i : ℕ) → bit F i ≡ true → bit C i ≡ true
@@ -106,6 +107,9 @@ module _ (r : Rule) (n d m F : ℕ) (within : d ≤ n) (fits : F < 2 ^ 32)
             let both = and_parts (ltb i n) (bit r.named i) (sym (cut i) ∙ b) in
             whole i both.1 ((decides_every r (fails (bits d m)) n).0 all i (ltb-true i n both.0) both.1)
 
-    pub all_fail_lem : eqb F C ≡ every (literals r n) (fails (bits d m))
-    all_fail_lem =
-        same_tests (eqb F C) (every (literals r n) (fails (bits d m))) (λ h. same_all (eqb-true F C h)) (λ h. eq-eqb F C (all_same h))
+    same_masks : eqb F C ≡ list_all (fails (bits d m)) (literals r n)
+    same_masks =
+        same_tests (eqb F C) (list_all (fails (bits d m)) (literals r n)) (λ h. same_all (eqb-true F C h)) (λ h. eq-eqb F C (all_same h))
+
+  pub all_fail_lem : (first : ℕ) → first ≡ 2 ^ min n 32 - 1 → r.named < 2 ^ 32 → eqb F (bit_and r.named first) ≡ list_all (fails (bits d m)) (literals r n)
+  all_fail_lem first e h = same_masks (bit_and r.named first) (omega (arith, and_le_l r.named first)) (λ i. cut_bit r.named n first i e h)

@@ -1,12 +1,11 @@
 -- A rule with one literal more, by its two masks.
-use Rattle.std.proofs.Common.{◌≡◌, ℕ, zero, suc, Bool, true, false, cond, [], Some, None, Option, sym, refl, ap, ◌∙◌, subst, ⊎_elim, arith}
+use Rattle.std.proofs.Common.{◌≡◌, ℕ, zero, suc, Bool, true, false, cond, Some, None, Option, sym, refl, ap, ◌∙◌, subst, ⊎_elim, arith}
 use Rattle.std.proofs.lemmas.Bool.{cond-false, cases_eq}
 use Rattle.prefix.specs.Bits.{mask_value, Changed}
 use Rattle.sheet.specs.Rules.{wanted_at}
-use Rattle.sheet.specs.Literals.{InRange, Joined, Made}
+use Rattle.sheet.specs.Literals.{InRange, Joined}
 use Rattle.sheet.specs.declared.literal.Literal.{Literal}
 use Rattle.sheet.specs.declared.rule.Rule.{Rule}
-use Rattle.prefix.proofs.Masks.{bit_past}
 use Rattle.sheet.proofs.Collected.{some_not_none}
 
 abbrev wanted_by : Bool → Bool → Option Bool
@@ -40,15 +39,3 @@ joins r l named wanted range free n w =
       tidy = λ t k e. ⊎_elim (λ (same : k ≡ p). absurd (some_not_none l.wanted (sym at ∙ ap (wanted_at r') (sym same) ∙ e)))
           (λ (ne : k ≡ p → ⊥). w.elsewhere k ne ∙ t k (sym (else k ne) ∙ e)) (cases_eq k p);
     }
-
-no_value : (k : ℕ) → mask_value 0 k ≡ false
-no_value zero = refl
-no_value (suc i) = bit_past 0 0 i (omega arith) (omega arith)
-
--- The rule of no literals.
-pub made_none : Made [] (record { named = 0; wanted = 0 })
-made_none = record {
-  distinct = tt;
-  wanted = λ k. wanted_value (record { named = 0; wanted = 0 }) k ∙ ap (λ (b : Bool). wanted_by b (mask_value 0 k)) (no_value k);
-  tidy = λ k _. no_value k;
-}

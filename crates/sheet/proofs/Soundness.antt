@@ -1,14 +1,9 @@
 -- Clauses and terms are sound: a whole line breaks them where it is not kept, a
 -- part line where no line from there on is.
-use Rattle.std.proofs.Common.{◌≡◌, ℕ, zero, suc, ◌≤◌, min, Bool, true, false, not, ◌&&◌, leb, List, [], ◌∷◌, ◌++◌, length, sym, refl, ap, ◌∙◌, arith}
+use Rattle.std.proofs.Common.{All, ◌≡◌, ℕ, zero, suc, ◌≤◌, Bool, true, false, not, ◌&&◌, leb, List, ◌++◌, length, get_or, sym, refl, ap, ◌∙◌, arith}
 use mathlib.Core.Bool.{beq}
-use Rattle.std.specs.List.{AllByRecursion}
 use Rattle.std.proofs.lemmas.List.{get_or_append_left}
 use Rattle.std.proofs.lemmas.Bool.{and_parts, and_right, not-true, le-leb, leb-true}
-use Rattle.prefix.specs.Bits.{bits}
-use Rattle.prefix.specs.Lines.{part_line}
-use Rattle.prefix.specs.declared.line.Line.{Line}
-use Rattle.prefix.specs.declared.prefix.Prefix.{Prefix}
 use Rattle.sheet.specs.Meaning.{Sound}
 use Rattle.sheet.specs.Rules.{literal_at, literals, value_at, holds, fails, clauses_kept, clauses_broken, terms_kept, terms_broken}
 use Rattle.sheet.specs.declared.literal.Literal.{Literal}
@@ -23,7 +18,7 @@ decided v l h =
     let e = le-leb l.position (length v) h in
     ap (λ (b : Bool). b && not same) e ∙ sym (ap (λ (b : Bool). not (b && same)) e)
 
-all_decided : (r : Rule) (n : ℕ) (v : List Bool) → length v ≡ n → AllByRecursion (λ l. fails v l ≡ not (holds v l)) (literals r n)
+all_decided : (r : Rule) (n : ℕ) (v : List Bool) → length v ≡ n → All (λ l. fails v l ≡ not (holds v l)) (literals r n)
 all_decided r n v e = all-literals r (λ l. fails v l ≡ not (holds v l)) n (λ i h. decided v (literal_at r i) (omega arith))
 
 value_append : (u rest : List Bool) (k : ℕ) → k ≤ length u → value_at (u ++ rest) k ≡ value_at u k
@@ -39,9 +34,8 @@ lost u rest l h =
     and_right (leb l.position (length (u ++ rest))) (same (u ++ rest))
     (ap (λ (b : Bool). beq b l.wanted) e ∙ not-true (same u) both.1)
 
-each : {A : Type 0} (P : A → Type 0) → ((x : A) → P x) → (xs : List A) → AllByRecursion P xs
-each P f [] = tt
-each P f (x ∷ xs) = (f x, each P f xs)
+each : {A : Type 0} (P : A → Type 0) → ((x : A) → P x) → (xs : List A) → All P xs
+each P f xs k d lt = f (get_or xs k d)
 
 pub clauses_sound : (n : ℕ) (rules : List Rule) → Sound n (clauses_kept n rules) (clauses_broken n rules)
 clauses_sound n rules = record {
@@ -58,8 +52,3 @@ terms_sound n rules = record {
   part = λ u rest _ h. every_excludes (some_fails n u) (all_hold n (u ++ rest))
       (λ r. some_excludes (fails u) (holds (u ++ rest)) (lost u rest) (literals r n)) rules h;
 }
-
--- What a sheet answers for n positions, n the prefix's length, it answers at the part line.
-pub at_part : (broken : ℕ → List Rule → List Bool → Bool) (p : Prefix) (rules : List Rule) (d : ℕ) (line : Line) (n : ℕ) (answer : Bool) → n ≡ p.length
-    → broken n rules (bits (min d n) line.mask) ≡ answer → answer ≡ broken p.length rules (part_line p d line)
-at_part broken p rules d line n answer e h = sym h ∙ ap (λ (k : ℕ). broken k rules (bits (min d k) line.mask)) e

@@ -1,3 +1,4 @@
+pub mod FormWords
 pub mod Meaning
 pub mod Rules
 pub mod Literals

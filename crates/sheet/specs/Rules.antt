@@ -1,20 +1,12 @@
 -- What rules mean: literals that hold or fail, clauses, terms.
-use Rattle.std.specs.Prelude.{ℕ, zero, suc, Bool, true, false, cond, not, ◌&&◌, ◌||◌, List, [], ◌∷◌, length, Some, None, Option, nat_le, slice_index_or}
+use Rattle.std.specs.Prelude.{ℕ, zero, suc, Bool, false, cond, not, ◌&&◌, List, [], ◌∷◌, length, Some, None, Option, nat_le, slice_index_or}
 use Rattle.std.specs.Bool.{beq}
+use Rattle.std.specs.List.{list_any, list_all}
 use Rattle.prefix.specs.Bits.{bit}
 use Rattle.sheet.specs.declared.form.Form.{Form}
 use Rattle.sheet.specs.declared.form.Form.TheVariants.{Cnf, Dnf}
 use Rattle.sheet.specs.declared.literal.Literal.{Literal}
 use Rattle.sheet.specs.declared.rule.Rule.{Rule}
-
--- Some element of a list, or every one, passes a test.
-abbrev pub some : {A : Type 0} → List A → (A → Bool) → Bool
-some [] p = false
-some (x ∷ xs) p = p x || some xs p
-
-abbrev pub every : {A : Type 0} → List A → (A → Bool) → Bool
-every [] p = true
-every (x ∷ xs) p = p x && every xs p
 
 -- The value that a rule wants at a position, if it names it.
 abbrev pub wanted_at : Rule → ℕ → Option Bool
@@ -45,18 +37,18 @@ fails u l = nat_le l.position (length u) && not (beq (value_at u l.position) l.w
 -- Clauses over n positions: a line is kept when each rule has a literal that holds,
 -- and a part line breaks them when all literals of some rule fail.
 abbrev pub clauses_kept : ℕ → List Rule → List Bool → Bool
-clauses_kept n rules v = every rules (λ r. some (literals r n) (holds v))
+clauses_kept n rules v = list_all (λ r. list_any (holds v) (literals r n)) rules
 
 abbrev pub clauses_broken : ℕ → List Rule → List Bool → Bool
-clauses_broken n rules u = some rules (λ r. every (literals r n) (fails u))
+clauses_broken n rules u = list_any (λ r. list_all (fails u) (literals r n)) rules
 
 -- Terms over n positions: a line is kept when all literals of some rule hold,
 -- and a part line breaks them when each rule has a literal that fails.
 abbrev pub terms_kept : ℕ → List Rule → List Bool → Bool
-terms_kept n rules v = some rules (λ r. every (literals r n) (holds v))
+terms_kept n rules v = list_any (λ r. list_all (holds v) (literals r n)) rules
 
 abbrev pub terms_broken : ℕ → List Rule → List Bool → Bool
-terms_broken n rules u = every rules (λ r. some (literals r n) (fails u))
+terms_broken n rules u = list_all (λ r. list_any (fails u) (literals r n)) rules
 
 -- The lines that the rules of a sheet keep, by its form.
 abbrev pub rules_kept : Form → ℕ → List Rule → List Bool → Bool

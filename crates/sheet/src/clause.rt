@@ -1,47 +1,28 @@
-// Clause sheets (cnf): every rule has to have a literal that holds.
-ghost use Rattle.std.specs.Prelude.{◌≡◌, take};
+// Clauses (cnf): every rule has to have a literal that holds.
 ghost use Rattle.sheet.specs.Rules.{clauses_kept, clauses_broken};
 
-use crate::rule::{Rule, counted};
-use crate::sheet::Sheet;
-use prefix::{Line, Prefix};
+use crate::normal_form::NormalForm;
+use crate::rule::Rule;
+use crate::rule_sheet::RuleSheet;
+use prefix::PartLine;
 
 #[derive(Clone, Copy)]
-pub struct ClauseSheet<'a> {
-    prefix: Prefix,
-    rules: &'a [Rule],
-}
+pub struct Clauses;
 
-impl<'a> ClauseSheet<'a> {
-    // The sheet of these rules; of a longer table the first 256 count.
-    pub fn new(prefix: Prefix, rules: &'a [Rule]) -> ClauseSheet<'a>
-        ensures prefix { result.prefix ≡ prefix }
-        ensures rules { result.rules.now ≡ take 256 rules.now }
-    {
-        ClauseSheet {
-            prefix,
-            rules: counted(rules),
-        }
-    }
-}
+pub type ClauseSheet<'a> = RuleSheet<'a, Clauses>;
 
-impl<'a> Sheet for ClauseSheet<'a> {
-    ghost prefix = { λ s. s.prefix };
+impl NormalForm for Clauses {
+    ghost kept = { clauses_kept };
 
-    ghost kept = { λ s. clauses_kept s.prefix.length s.rules.now };
+    ghost broken = { clauses_broken };
 
-    ghost broken = { λ s. clauses_broken s.prefix.length s.rules.now };
-
-    fn prefix(&self) -> Prefix {
-        self.prefix
-    }
-
-    // Whether some rule has all its literals within the first `length`
-    // positions, and none of them holds.
-    fn broken(&self, length: usize, line: Line) -> bool {
-        let n = self.prefix.len();
-        for rule in self.rules {
-            if rule.all_fail(n, length, line) {
+    // Whether some rule has all its literals among the values given, and none of
+    // them holds.
+    #[tactic(auto, using(crate::proofs::Soundness::clauses_sound))]
+    fn broken(rules: &[Rule], n: usize, part: PartLine) -> bool {
+        // by `for`, as docs/DECISIONS.md says of fixed forms
+        for rule in rules {
+            if rule.all_fail(n, part) {
                 return true;
             }
         }

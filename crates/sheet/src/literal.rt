@@ -8,6 +8,7 @@ pub struct Literal {
     pub wanted: bool,
 }
 
+// Two constructors and no bool parameter, so that a call says what is wanted.
 impl Literal {
     pub fn on(position: usize) -> Literal
         ensures { (result.position ≡ position) × (result.wanted ≡ true) }

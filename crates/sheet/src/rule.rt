@@ -9,8 +9,9 @@ use crate::literal::Literal;
 use prefix::{Line, Prefix};
 
 // Bit k - 1 of `named` is on where the rule has a literal at position k, and
-// then bit k - 1 of `wanted` is the value that it wants.
-#[derive(Clone, Copy, PartialEq, Eq, Debug)]
+// then bit k - 1 of `wanted` is the value that it wants. Masks and no list of options,
+// since a walk tests each rule at each part line. The default names no position.
+#[derive(Clone, Copy, Default, PartialEq, Eq, Debug)]
 pub struct Rule {
     named: u32,
     wanted: u32,
@@ -64,10 +65,7 @@ impl Rule {
     {
         let mut rule = Rule::empty();
         for literal in literals {
-            let Some(more) = rule.with(*literal) else {
-                return None;
-            };
-            rule = more;
+            rule = rule.with(*literal)?;
         }
         Some(rule)
     }
@@ -77,11 +75,9 @@ impl Rule {
 pub const MOST_RULES: usize = 256;
 
 // The rules of a table that count: the first 256.
+#[tactic(auto, using(std::proofs::lemmas::List::take_min))]
 pub fn counted(rules: &[Rule]) -> &[Rule]
     ensures { result.now ≡ take 256 rules.now }
 {
-    if rules.len() <= MOST_RULES {
-        return rules;
-    }
-    &rules[0..MOST_RULES]
+    &rules[..MOST_RULES.min(rules.len())]
 }

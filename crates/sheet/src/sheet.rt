@@ -4,7 +4,7 @@ ghost use Rattle.prefix.specs.Lines.{part_line};
 ghost use Rattle.prefix.specs.declared.prefix.Prefix.{Prefix};
 ghost use Rattle.sheet.specs.Meaning.{Sound};
 
-use prefix::{Line, Prefix};
+use prefix::{PartLine, Prefix};
 
 // A sheet means a prefix and a set of kept lines; every other line is broken.
 pub trait Sheet {
@@ -19,9 +19,9 @@ pub trait Sheet {
     fn prefix(&self) -> Prefix
         ensures { result ≡ prefix self.now };
 
-    // Whether the first `length` values of a line break the sheet already. A
-    // length above the prefix's is read as that; later values do not count.
-    fn broken(&self, length: usize, line: Line) -> bool
-        ensures answer { result ≡ broken self.now (part_line (prefix self.now) length line) }
+    // Whether the values of a part line break the sheet already. A length above
+    // the prefix's is read as that.
+    fn broken(&self, part: PartLine) -> bool
+        ensures answer { result ≡ broken self.now (part_line (prefix self.now) part) }
         ensures sound { Sound (prefix self.now).length (kept self.now) (broken self.now) };
 }

@@ -1,47 +1,27 @@
-// Term sheets (dnf): some rule has to have all its literals holding.
-ghost use Rattle.std.specs.Prelude.{◌≡◌, take};
+// Terms (dnf): some rule has to have all its literals holding.
 ghost use Rattle.sheet.specs.Rules.{terms_kept, terms_broken};
 
-use crate::rule::{Rule, counted};
-use crate::sheet::Sheet;
-use prefix::{Line, Prefix};
+use crate::normal_form::NormalForm;
+use crate::rule::Rule;
+use crate::rule_sheet::RuleSheet;
+use prefix::PartLine;
 
 #[derive(Clone, Copy)]
-pub struct TermSheet<'a> {
-    prefix: Prefix,
-    rules: &'a [Rule],
-}
+pub struct Terms;
 
-impl<'a> TermSheet<'a> {
-    // The sheet of these rules; of a longer table the first 256 count.
-    pub fn new(prefix: Prefix, rules: &'a [Rule]) -> TermSheet<'a>
-        ensures prefix { result.prefix ≡ prefix }
-        ensures rules { result.rules.now ≡ take 256 rules.now }
-    {
-        TermSheet {
-            prefix,
-            rules: counted(rules),
-        }
-    }
-}
+pub type TermSheet<'a> = RuleSheet<'a, Terms>;
 
-impl<'a> Sheet for TermSheet<'a> {
-    ghost prefix = { λ s. s.prefix };
+impl NormalForm for Terms {
+    ghost kept = { terms_kept };
 
-    ghost kept = { λ s. terms_kept s.prefix.length s.rules.now };
+    ghost broken = { terms_broken };
 
-    ghost broken = { λ s. terms_broken s.prefix.length s.rules.now };
-
-    fn prefix(&self) -> Prefix {
-        self.prefix
-    }
-
-    // Whether every rule has a literal within the first `length` positions that
-    // fails.
-    fn broken(&self, length: usize, line: Line) -> bool {
-        let n = self.prefix.len();
-        for rule in self.rules {
-            if !rule.any_fails(n, length, line) {
+    // Whether every rule has a literal among the values given that fails.
+    #[tactic(auto, using(crate::proofs::Soundness::terms_sound))]
+    fn broken(rules: &[Rule], n: usize, part: PartLine) -> bool {
+        // by `for`, as docs/DECISIONS.md says of fixed forms
+        for rule in rules {
+            if !rule.any_fails(n, part) {
                 return false;
             }
         }

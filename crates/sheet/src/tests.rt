@@ -4,8 +4,15 @@ use crate::literal::Literal;
 use crate::rule::Rule;
 use crate::sheet::Sheet;
 use crate::term::TermSheet;
-use prefix::{Line, Prefix};
+use prefix::{Line, PartLine, Prefix};
 use std::test::Fail;
+
+fn part(length: usize, mask: u32) -> PartLine {
+    PartLine {
+        length,
+        line: Line::from_mask(mask),
+    }
+}
 
 #[test]
 fn a_rule_has_distinct_positions_within_reach(rt: HostRuntime) -> Result<(), Fail> {
@@ -32,9 +39,7 @@ fn a_rule_has_distinct_positions_within_reach(rt: HostRuntime) -> Result<(), Fai
 // The clause of the positions 2 and 3.
 #[test]
 fn a_clause_breaks_where_all_its_literals_fail(rt: HostRuntime) -> Result<(), Fail> {
-    let Some(prefix) = Prefix::new(3, 0) else {
-        return Err(Fail::new("refused"));
-    };
+    let prefix = Prefix::new(3, 0).ok_or("refused")?;
     let rules = [Rule::of(&[Literal::on(2), Literal::on(3)]).ok_or("refused")?];
     let sheet = ClauseSheet::new(prefix, &rules);
     for (length, mask, broken) in [
@@ -47,7 +52,7 @@ fn a_clause_breaks_where_all_its_literals_fail(rt: HostRuntime) -> Result<(), Fa
         (3, 0b100, false),
         (9, 0b1001, true),
     ] {
-        assert_eq!(rt; sheet.broken(length, Line::from_mask(mask)), broken);
+        assert_eq!(rt; sheet.broken(part(length, mask)), broken);
     }
     Ok(())
 }
@@ -55,9 +60,7 @@ fn a_clause_breaks_where_all_its_literals_fail(rt: HostRuntime) -> Result<(), Fa
 // The term that wants position 2 on and position 3 off.
 #[test]
 fn a_term_breaks_where_one_of_its_literals_fails(rt: HostRuntime) -> Result<(), Fail> {
-    let Some(prefix) = Prefix::new(3, 0) else {
-        return Err(Fail::new("refused"));
-    };
+    let prefix = Prefix::new(3, 0).ok_or("refused")?;
     let rules = [Rule::of(&[Literal::on(2), Literal::off(3)]).ok_or("refused")?];
     let sheet = TermSheet::new(prefix, &rules);
     for (length, mask, broken) in [
@@ -70,24 +73,22 @@ fn a_term_breaks_where_one_of_its_literals_fails(rt: HostRuntime) -> Result<(), 
         (3, 0b110, true),
         (9, 0b1010, false),
     ] {
-        assert_eq!(rt; sheet.broken(length, Line::from_mask(mask)), broken);
+        assert_eq!(rt; sheet.broken(part(length, mask)), broken);
     }
     Ok(())
 }
 
 #[test]
 fn no_rule_and_an_empty_rule(rt: HostRuntime) -> Result<(), Fail> {
-    let Some(prefix) = Prefix::new(2, 0) else {
-        return Err(Fail::new("refused"));
-    };
+    let prefix = Prefix::new(2, 0).ok_or("refused")?;
     let none: [Rule; 0] = [];
     let one = [Rule::empty()];
     for length in [0, 1, 2] {
-        let line = Line::from_mask(0b01);
-        assert_eq!(rt; ClauseSheet::new(prefix, &none).broken(length, line), false);
-        assert_eq!(rt; TermSheet::new(prefix, &none).broken(length, line), true);
-        assert_eq!(rt; ClauseSheet::new(prefix, &one).broken(length, line), true);
-        assert_eq!(rt; TermSheet::new(prefix, &one).broken(length, line), false);
+        let at = part(length, 0b01);
+        assert_eq!(rt; ClauseSheet::new(prefix, &none).broken(at), false);
+        assert_eq!(rt; TermSheet::new(prefix, &none).broken(at), true);
+        assert_eq!(rt; ClauseSheet::new(prefix, &one).broken(at), true);
+        assert_eq!(rt; TermSheet::new(prefix, &one).broken(at), false);
     }
     Ok(())
 }
@@ -95,9 +96,7 @@ fn no_rule_and_an_empty_rule(rt: HostRuntime) -> Result<(), Fail> {
 // A literal at position 3 of a sheet over two positions.
 #[test]
 fn a_literal_past_the_prefix_is_absent(rt: HostRuntime) -> Result<(), Fail> {
-    let Some(prefix) = Prefix::new(2, 0) else {
-        return Err(Fail::new("refused"));
-    };
+    let prefix = Prefix::new(2, 0).ok_or("refused")?;
     let rules = [Rule::of(&[Literal::on(2), Literal::on(3)]).ok_or("refused")?];
     let clauses = ClauseSheet::new(prefix, &rules);
     let terms = TermSheet::new(prefix, &rules);
@@ -107,8 +106,8 @@ fn a_literal_past_the_prefix_is_absent(rt: HostRuntime) -> Result<(), Fail> {
         (2, 0b010, false, false),
         (3, 0b100, true, true),
     ] {
-        assert_eq!(rt; clauses.broken(length, Line::from_mask(mask)), clause);
-        assert_eq!(rt; terms.broken(length, Line::from_mask(mask)), term);
+        assert_eq!(rt; clauses.broken(part(length, mask)), clause);
+        assert_eq!(rt; terms.broken(part(length, mask)), term);
     }
     Ok(())
 }
@@ -116,18 +115,15 @@ fn a_literal_past_the_prefix_is_absent(rt: HostRuntime) -> Result<(), Fail> {
 // The empty rule last of 256 rules, and last of 257.
 #[test]
 fn the_rule_after_256_does_not_count(rt: HostRuntime) -> Result<(), Fail> {
-    let Some(prefix) = Prefix::new(1, 0) else {
-        return Err(Fail::new("refused"));
-    };
+    let prefix = Prefix::new(1, 0).ok_or("refused")?;
     let rule = Rule::of(&[Literal::on(1)]).ok_or("refused")?;
-    let off = Line::from_mask(0);
     let mut most = [rule; 256];
     most[255] = Rule::empty();
-    assert_eq!(rt; ClauseSheet::new(prefix, &most).broken(0, off), true);
-    assert_eq!(rt; TermSheet::new(prefix, &most).broken(1, off), false);
+    assert_eq!(rt; ClauseSheet::new(prefix, &most).broken(part(0, 0)), true);
+    assert_eq!(rt; TermSheet::new(prefix, &most).broken(part(1, 0)), false);
     let mut more = [rule; 257];
     more[256] = Rule::empty();
-    assert_eq!(rt; ClauseSheet::new(prefix, &more).broken(0, off), false);
-    assert_eq!(rt; TermSheet::new(prefix, &more).broken(1, off), true);
+    assert_eq!(rt; ClauseSheet::new(prefix, &more).broken(part(0, 0)), false);
+    assert_eq!(rt; TermSheet::new(prefix, &more).broken(part(1, 0)), true);
     Ok(())
 }

@@ -1,32 +1,36 @@
-// Which literals of a rule fail at the first values of a line: what both kinds
-// of sheet ask of a rule, by masks.
-ghost use Rattle.std.specs.Prelude.{◌≡◌, ℕ, min, ◌&&◌};
+// Which literals of a rule fail at the first values of a line: what both normal
+// forms ask of a rule, by masks.
+ghost use Rattle.std.specs.Prelude.{◌≡◌, ℕ, ◌&&◌};
 ghost use Rattle.prefix.specs.Bits.{bit, bits};
-ghost use Rattle.sheet.specs.Rules.{literal_at, literals, fails, some, every};
+ghost use Rattle.prefix.specs.Lines.{values_within};
+ghost use Rattle.std.specs.List.{list_any, list_all};
+ghost use Rattle.sheet.specs.Rules.{literal_at, literals, fails};
 
 use super::Rule;
-use prefix::{Line, first_positions};
+use prefix::{PartLine, first_positions};
 
 impl Rule {
-    // The mask of the literals that fail at the first `length` values.
-    fn failing(self, length: usize, line: Line) -> u32
-        ensures { (i : ℕ) → bit result i ≡ (bit self.named i && fails (bits length line.mask) (literal_at self i)) }
+    // The mask of the literals that fail.
+    #[tactic(auto, using(crate::proofs::Failing::failing_bit))]
+    fn failing(self, part: PartLine) -> u32
+        ensures { (i : ℕ) → bit result i ≡ (bit self.named i && fails (bits part.length part.line.mask) (literal_at self i)) }
     {
-        self.named & (line.mask() ^ self.wanted) & first_positions(length)
+        self.named & (part.line.mask() ^ self.wanted) & first_positions(part.length)
     }
 
-    // Whether all literals within n positions fail at the first `length` values,
-    // of which n count.
-    pub(crate) fn all_fail(self, n: usize, length: usize, line: Line) -> bool
-        ensures { result ≡ every (literals self n) (fails (bits (min length n) line.mask)) }
+    // Whether all literals within n positions fail, at the first n values at most.
+    #[tactic(auto, using(crate::proofs::Failing::all_fail_lem))]
+    pub(crate) fn all_fail(self, n: usize, part: PartLine) -> bool
+        ensures { result ≡ list_all (fails (values_within n part)) (literals self n) }
     {
-        self.failing(length.min(n), line) == self.named & first_positions(n)
+        self.failing(part.within(n)) == self.named & first_positions(n)
     }
 
     // Whether some literal within n positions does.
-    pub(crate) fn any_fails(self, n: usize, length: usize, line: Line) -> bool
-        ensures { result ≡ some (literals self n) (fails (bits (min length n) line.mask)) }
+    #[tactic(auto, using(crate::proofs::Failing::any_fails_lem))]
+    pub(crate) fn any_fails(self, n: usize, part: PartLine) -> bool
+        ensures { result ≡ list_any (fails (values_within n part)) (literals self n) }
     {
-        self.failing(length.min(n), line) != 0
+        self.failing(part.within(n)) != 0
     }
 }
