@@ -1,6 +1,7 @@
 -- How many turns a walk has left: what its loop's measure counts.
-use Rattle.std.proofs.Common.{◌≡◌, ℕ, zero, suc, ◌+◌, ◌-◌, ◌<◌, Bool, true, false, cond, not, List, length, sym, refl, ap, ◌∙◌, subst, add-one, arith}
+use Rattle.std.proofs.Common.{◌≡◌, ℕ, zero, suc, ◌+◌, ◌-◌, ◌<◌, Bool, true, false, cond, not, List, length, sym, refl, ap, ◌∙◌, add-one, arith}
 use mathlib.Core.Bool.{beq}
+use Rattle.std.proofs.lemmas.Bool.{true≢false}
 use Rattle.prefix.specs.Bits.{bit}
 use Rattle.prefix.specs.Kinds.{is_report}
 use Rattle.prefix.specs.declared.kind.Kind.{Kind}
@@ -68,29 +69,29 @@ module _ (ks : List Kind) where
   unfolding cost
   cost_first k line e = ap (λ (x : Bool). cond x 1 (turns (length ks - suc k) + 2) + cost ks k line) e
 
-  -- Each way through the loop leaves fewer.
-  pub fewer_known : (d line : ℕ) (known : Bool) → known ≡ false → left ks d line true < left ks d line known
-  fewer_known d line known e = subst (λ (b : Bool). cost ks d line < left ks d line b) (sym e) (omega (arith, turns_pos (length ks - d)))
+  -- Each way through the loop leaves fewer, whether the worth was known before it and is known after it.
+  pub fewer_known : (d line : ℕ) (before after : Bool) → before ≡ false → after ≡ true → left ks d line after < left ks d line before
+  fewer_known d line false true e f = omega (arith, turns_pos (length ks - d))
+  fewer_known d line true after e f = absurd (true≢false e)
+  fewer_known d line false false e f = absurd (true≢false (sym f))
 
-  pub fewer_down : (d line to : ℕ) (known : Bool) → known ≡ false → d < length ks → bit to d ≡ not (is_report ks (suc d)) → SameTo d to line → left ks (d + 1) to known < left ks d line known
+  pub fewer_down : (d line to : ℕ) (before after : Bool) → before ≡ false → after ≡ false → d < length ks → bit to d ≡ not (is_report ks (suc d)) → SameTo d to line
+      → left ks (d + 1) to after < left ks d line before
   unfolding turns
-  fewer_down d line to known e h t s =
-      let f = cost_first d to (ap (λ (x : Bool). beq x (is_report ks (suc d))) t ∙ second_not (is_report ks (suc d))) in
+  fewer_down d line to before after e f h t s =
+      let first = cost_first d to (ap (λ (x : Bool). beq x (is_report ks (suc d))) t ∙ second_not (is_report ks (suc d))) in
       let same = cost_same d to line s in
       let m : length ks - d ≡ suc (length ks - suc d) = omega arith in
       let two : turns (length ks - d) ≡ turns (length ks - suc d) + turns (length ks - suc d) + 3 = ap turns m in
-      subst (λ (b : Bool). left ks (d + 1) to b < left ks d line b) (sym e) (rw add-one (omega arith))
+      rw (e, f, add-one) (omega arith)
 
-  pub fewer_up : (d k line : ℕ) (known : Bool) → known ≡ true → d ≡ suc k → (b : Bool) → second ks line k ≡ b → left ks k line known < left ks d line known
-  fewer_up d k line known e m true b =
-      subst (λ (t : Bool). left ks k line t < left ks d line t) (sym e) (subst (λ (d : ℕ). cost ks k line < cost ks d line) (sym m) (omega (arith, cost_second k line b)))
-  fewer_up d k line known e m false b =
-      subst (λ (t : Bool). left ks k line t < left ks d line t) (sym e) (subst (λ (d : ℕ). cost ks k line < cost ks d line) (sym m) (omega (arith, cost_first k line b)))
+  pub fewer_up : (d k line : ℕ) (before : Bool) → before ≡ true → d ≡ suc k → (b : Bool) → second ks line k ≡ b → left ks k line true < left ks d line before
+  fewer_up d k line before e m true b = rw (e, m) (omega (arith, cost_second k line b))
+  fewer_up d k line before e m false b = rw (e, m) (omega (arith, cost_first k line b))
 
-  pub fewer_over : (d k line to : ℕ) (known : Bool) → known ≡ true → d ≡ suc k → second ks line k ≡ false → bit to k ≡ is_report ks (suc k) → SameTo k to line → left ks d to false < left ks d line known
-  fewer_over d k line to known e m b t s =
-      let f = cost_first k line b in
-      let g = cost_second k to (ap (λ (x : Bool). beq x (is_report ks (suc k))) t ∙ second_same (is_report ks (suc k))) in
+  pub fewer_over : (d k line to : ℕ) (before : Bool) → before ≡ true → d ≡ suc k → second ks line k ≡ false → bit to k ≡ is_report ks (suc k) → SameTo k to line → left ks d to false < left ks d line before
+  fewer_over d k line to before e m b t s =
+      let first = cost_first k line b in
+      let there = cost_second k to (ap (λ (x : Bool). beq x (is_report ks (suc k))) t ∙ second_same (is_report ks (suc k))) in
       let same = cost_same k to line s in
-      subst (λ (t : Bool). left ks d to false < left ks d line t) (sym e)
-      (subst (λ (d : ℕ). left ks d to false < cost ks d line) (sym m) (omega arith))
+      rw (e, m) (omega arith)

@@ -1,10 +1,10 @@
 -- The yes-no worth against policies.
-use Rattle.std.specs.Prelude.{◌≡◌, ℕ, ◌<◌, ◌≤◌, Bool, true, ◌↔◌, List, [], length, Result, MatchResult}
+use Rattle.std.specs.Prelude.{◌≡◌, ◌<◌, ◌≤◌, Bool, true, ◌↔◌, List, [], length, Result, MatchResult}
 use Rattle.prefix.specs.Prefixes.{kinds}
 use Rattle.prefix.specs.Lines.{part_line, kinds_after}
 use Rattle.prefix.specs.Policies.{Winnable}
 use Rattle.prefix.specs.declared.kind.Kind.{Kind}
-use Rattle.prefix.specs.declared.line.Line.{Line}
+use Rattle.prefix.specs.declared.part_line.PartLine.{PartLine}
 use Rattle.prefix.specs.declared.prefix.Prefix.{Prefix}
 use Rattle.worth.specs.Scales.{yes_no}
 use Rattle.worth.specs.Faults.{refusal}
@@ -15,9 +15,9 @@ use Rattle.worth.specs.declared.fault.WorthFault.{WorthFault}
 abbrev pub WinnableOf : (List Bool → Bool) → Prefix → Type 0
 WinnableOf kept p = Winnable kept (kinds p) []
 
--- Some policy wins from the first d values of a line.
-abbrev pub WinnableFrom : (List Bool → Bool) → Prefix → ℕ → Line → Type 0
-WinnableFrom kept p d l = Winnable kept (kinds_after p d) (part_line p d l)
+-- Some policy wins from a part line.
+abbrev pub WinnableFrom : (List Bool → Bool) → Prefix → PartLine → Type 0
+WinnableFrom kept p u = Winnable kept (kinds_after p u.length) (part_line p u)
 
 -- The yes-no worth of a part line is yes exactly when some policy wins from there.
 abbrev pub YesMeansWinnable : Type 0

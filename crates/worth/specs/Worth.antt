@@ -4,7 +4,7 @@ use Rattle.prefix.specs.Prefixes.{kinds}
 use Rattle.prefix.specs.Lines.{part_line, kinds_after}
 use Rattle.prefix.specs.declared.kind.Kind.{Kind}
 use Rattle.prefix.specs.declared.kind.Kind.TheVariants.{Report, Reply}
-use Rattle.prefix.specs.declared.line.Line.{Line}
+use Rattle.prefix.specs.declared.part_line.PartLine.{PartLine}
 use Rattle.prefix.specs.declared.prefix.Prefix.{Prefix}
 use Rattle.worth.specs.Scales.{Joins}
 use Rattle.worth.specs.Faults.{refusal}
@@ -20,9 +20,9 @@ worth j kept (Report ∷ ks) u = j.both (worth j kept ks (u ++ false ∷ [])) (w
 abbrev pub worth_of : {W : Type 0} → Joins W → (List Bool → Bool) → Prefix → W
 worth_of j kept p = worth j kept (kinds p) []
 
--- The worth of the first d values of a line, on a sheet of prefix p.
-abbrev pub worth_from : {W : Type 0} → Joins W → (List Bool → Bool) → Prefix → ℕ → Line → W
-worth_from j kept p d l = worth j kept (kinds_after p d) (part_line p d l)
+-- The worth of a part line on a sheet of prefix p.
+abbrev pub worth_from : {W : Type 0} → Joins W → (List Bool → Bool) → Prefix → PartLine → W
+worth_from j kept p u = worth j kept (kinds_after p u.length) (part_line p u)
 
 -- Every cell holds the lost worth.
 abbrev pub AllLost : {W : Type 0} → Joins W → List W → Type 0

@@ -1,4 +1,5 @@
 // The count scale: in how many ways can the box still win?
+ghost use Rattle.std.specs.Prelude.{refl};
 ghost use Rattle.worth.specs.Counts.{count};
 ghost use Rattle.worth.specs.Counted.{count_lawful, same_count};
 ghost use Rattle.std.proofs.lemmas.Bool.{eqb-true};
@@ -15,19 +16,19 @@ impl Scale for Count {
 
     const WON: PolicyCount = PolicyCount::ONE;
 
+    ghost LOST = { count.lost };
+
+    ghost WON = { count.won };
+
     ghost joins = { count };
+
+    ghost lost = { refl };
+
+    ghost won = { refl };
 
     ghost lawful = { count_lawful };
 
     ghost tells = { λ a b e. same_count a b (eqb-true a.value b.value e) };
-
-    fn lost_worth() -> PolicyCount {
-        Self::LOST
-    }
-
-    fn won_worth() -> PolicyCount {
-        Self::WON
-    }
 
     fn either(first: PolicyCount, second: PolicyCount) -> PolicyCount {
         PolicyCount::new(first.value().saturating_add(second.value()))

@@ -17,17 +17,16 @@ pub fn count_policies<F: Sheet>(sheet: &F) -> PolicyCount
 {
     let mut cells = [PolicyCount::NONE; Prefix::MOST_POSITIONS];
     let mut stack = WorthStack::new(&mut cells);
-    match stack.worth::<Count, F>(sheet) {
-        Ok(count) => count,
-        Err(_) => unreachable(),
-    }
+    stack.worth::<Count, F>(sheet).unwrap()
 }
 
 // The same of the sheet of these rules, read as clauses or as terms; of more
-// than 256 rules the first 256 count.
+// than 256 rules the first 256 count. Three parameters and no struct: callers have
+// them apart, and here they are taken apart at once.
 pub fn count_policies_of(form: Form, prefix: Prefix, rules: &[Rule]) -> PolicyCount
     ensures { result ≡ worth_of count (rules_kept form prefix.length (take 256 rules.now)) prefix }
 {
+    // a match, since each form has a walk of its own
     match form {
         Form::Cnf => count_policies(&ClauseSheet::new(prefix, rules)),
         Form::Dnf => count_policies(&TermSheet::new(prefix, rules)),

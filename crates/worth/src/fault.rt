@@ -2,6 +2,7 @@
 ghost use Rattle.std.specs.Prelude.{◌≡◌, Some, codes};
 ghost use Rattle.worth.specs.Faults.{refusal};
 
+use std::error::Error;
 use std::fmt;
 
 #[derive(Clone, Copy, PartialEq, Eq, Debug)]
@@ -21,6 +22,7 @@ impl WorthFault {
     }
 }
 
+// By hand, since a derived message promises no `output`.
 impl fmt::Display for WorthFault {
     ghost output = { λ _. Some (codes "the stack has fewer cells than the prefix has positions") };
 
@@ -28,3 +30,5 @@ impl fmt::Display for WorthFault {
         write!(f, "the stack has fewer cells than the prefix has positions")
     }
 }
+
+impl Error for WorthFault {}

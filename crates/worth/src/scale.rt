@@ -12,15 +12,12 @@ pub trait Scale {
 
     const WON: Self::Worth;
 
+    // The two constants, as proofs see them.
+    ghost LOST: { Self.Worth };
+
+    ghost WON: { Self.Worth };
+
     ghost joins: { Joins Self.Worth };
-
-    // `LOST` and `WON`. Generic code asks these two: a proof knows nothing of a
-    // constant of a type parameter.
-    fn lost_worth() -> Self::Worth
-        ensures { result ≡ joins.lost };
-
-    fn won_worth() -> Self::Worth
-        ensures { result ≡ joins.won };
 
     fn either(first: Self::Worth, second: Self::Worth) -> Self::Worth
         ensures { result ≡ joins.either first second };
@@ -32,6 +29,11 @@ pub trait Scale {
     fn unbeatable(worth: Self::Worth) -> bool
         ensures { result ≡ true → (other : Self.Worth) → joins.either worth other ≡ worth };
 
+    // The constants are the worths of a broken and of a kept line.
+    ghost lost: { LOST ≡ joins.lost };
+
+    ghost won: { WON ≡ joins.won };
+
     // Lost changes nothing in `either` and everything in `both`.
     ghost lawful: { Lawful joins };
 
@@ -40,6 +42,8 @@ pub trait Scale {
 }
 
 // The worth of a position's two branches: of a report both, of a reply either.
+// `report` is a bool and no `Kind`, since in the walk it is also the second
+// branch's value.
 pub(crate) fn join<S: Scale>(report: bool, first: S::Worth, second: S::Worth) -> S::Worth
     ensures { result ≡ joined S.Scale.joins report first second }
 {
@@ -50,12 +54,13 @@ pub(crate) fn join<S: Scale>(report: bool, first: S::Worth, second: S::Worth) ->
     }
 }
 
-// Yes only where the second branch cannot change what the first is worth.
+// Yes only where the second branch cannot change what the first is worth; `report`
+// as in `join`.
 pub(crate) fn is_settled<S: Scale>(report: bool, first: S::Worth) -> bool
     ensures { result ≡ true → (second : S.Worth) → joined S.Scale.joins report first second ≡ first }
 {
     if report {
-        first == S::lost_worth()
+        first == S::LOST
     } else {
         S::unbeatable(first)
     }

@@ -5,10 +5,12 @@ ghost use Rattle.worth.specs.Worth.{worth_of, worth_from, Asked};
 use crate::fault::WorthFault;
 use crate::scale::Scale;
 use crate::walk::walk;
-use prefix::Line;
+use prefix::PartLine;
 use sheet::Sheet;
 
-// A stack of worths in the caller's memory: one cell for each position.
+// A stack of worths: one cell for each position, in the caller's memory and not in
+// a vector, so that a walk needs no heap. Each method says that the cells keep their
+// ghost name, as the kit asks where a struct holds a `&mut`.
 #[derive(Drop)]
 pub struct WorthStack<'a, W> {
     cells: &'a mut [W],
@@ -34,20 +36,18 @@ impl<'a, W: Copy> WorthStack<'a, W> {
         ensures asked { Asked S.Scale.joins (F.Sheet.prefix sheet.now) (worth_of S.Scale.joins (F.Sheet.kept sheet.now) (F.Sheet.prefix sheet.now)) self.old.cells.now self.new.cells.now result }
         ensures name { self.new.cells.ghost_name ≡ self.old.cells.ghost_name }
     {
-        walk::<S, F>(self.cells, sheet, 0, Line::from_mask(0))
+        walk::<S, F>(self.cells, sheet, PartLine::empty())
     }
 
-    // The worth of the part line of the first `length` values of a line; a
-    // length above the prefix's is read as that.
+    // The worth of a part line; a length above the prefix's is read as that.
     pub fn worth_from<S: Scale<Worth = W>, F: Sheet>(
         &mut self,
         sheet: &F,
-        length: usize,
-        line: Line,
+        from: PartLine,
     ) -> Result<W, WorthFault>
-        ensures asked { Asked S.Scale.joins (F.Sheet.prefix sheet.now) (worth_from S.Scale.joins (F.Sheet.kept sheet.now) (F.Sheet.prefix sheet.now) length line) self.old.cells.now self.new.cells.now result }
+        ensures asked { Asked S.Scale.joins (F.Sheet.prefix sheet.now) (worth_from S.Scale.joins (F.Sheet.kept sheet.now) (F.Sheet.prefix sheet.now) from) self.old.cells.now self.new.cells.now result }
         ensures name { self.new.cells.ghost_name ≡ self.old.cells.ghost_name }
     {
-        walk::<S, F>(self.cells, sheet, length, line)
+        walk::<S, F>(self.cells, sheet, from)
     }
 }

@@ -4,7 +4,7 @@ use crate::fault::WorthFault;
 use crate::policy_count::PolicyCount;
 use crate::stack::WorthStack;
 use crate::winning::{can_win, has_winning_policy};
-use prefix::{Line, Prefix};
+use prefix::{Line, PartLine, Prefix};
 use sheet::{ClauseSheet, Literal, Rule};
 use std::test::Fail;
 
@@ -33,9 +33,7 @@ fn site_f() -> Result<[Rule; 4], Fail> {
 
 #[test]
 fn part_lines_of_site_f(rt: HostRuntime) -> Result<(), Fail> {
-    let Some(prefix) = Prefix::new(4, 0b0101) else {
-        return Err(Fail::new("refused"));
-    };
+    let prefix = Prefix::new(4, 0b0101).ok_or("refused")?;
     let rules = site_f()?;
     let sheet = ClauseSheet::new(prefix, &rules);
     let mut cells = [true; 4];
@@ -52,10 +50,11 @@ fn part_lines_of_site_f(rt: HostRuntime) -> Result<(), Fail> {
         (4, 0b1011, false),
         (9, 0b1_0011, true),
     ] {
-        assert_eq!(rt;
-            can_win(&mut stack, &sheet, length, Line::from_mask(mask))?,
-            answer
-        );
+        let from = PartLine {
+            length,
+            line: Line::from_mask(mask),
+        };
+        assert_eq!(rt; can_win(&mut stack, &sheet, from)?, answer);
     }
     Ok(())
 }
@@ -63,9 +62,7 @@ fn part_lines_of_site_f(rt: HostRuntime) -> Result<(), Fail> {
 // The same rules: the two replies can follow the report, and not foresee it.
 #[test]
 fn replies_before_the_report(rt: HostRuntime) -> Result<(), Fail> {
-    let Some(after) = Prefix::new(3, 0b001) else {
-        return Err(Fail::new("refused"));
-    };
+    let after = Prefix::new(3, 0b001).ok_or("refused")?;
     let rules = [
         Rule::of(&[Literal::off(3), Literal::on(1)]).ok_or("refused")?,
         Rule::of(&[Literal::off(2), Literal::on(1)]).ok_or("refused")?,
@@ -77,9 +74,7 @@ fn replies_before_the_report(rt: HostRuntime) -> Result<(), Fail> {
         has_winning_policy(&mut stack, &ClauseSheet::new(after, &rules))?,
         true
     );
-    let Some(before) = Prefix::new(3, 0b100) else {
-        return Err(Fail::new("refused"));
-    };
+    let before = Prefix::new(3, 0b100).ok_or("refused")?;
     let turned = [
         Rule::of(&[Literal::off(2), Literal::on(3)]).ok_or("refused")?,
         Rule::of(&[Literal::off(1), Literal::on(3)]).ok_or("refused")?,
@@ -94,9 +89,7 @@ fn replies_before_the_report(rt: HostRuntime) -> Result<(), Fail> {
 
 #[test]
 fn the_stack_afterwards(rt: HostRuntime) -> Result<(), Fail> {
-    let Some(prefix) = Prefix::new(4, 0b0101) else {
-        return Err(Fail::new("refused"));
-    };
+    let prefix = Prefix::new(4, 0b0101).ok_or("refused")?;
     let rules = site_f()?;
     let sheet = ClauseSheet::new(prefix, &rules);
     let mut few = [PolicyCount::ONE; 3];

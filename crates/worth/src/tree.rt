@@ -5,10 +5,10 @@ ghost use Rattle.prefix.specs.Prefixes.{kinds};
 ghost use Rattle.worth.specs.Worth.{worth};
 
 use crate::scale::{Scale, is_settled, join};
-use prefix::Line;
+use prefix::PartLine;
 use sheet::Sheet;
 
-// The worth of the part line of the first `start` values of a line.
+// The worth of a part line.
 //
 // Goes down to the first branch of each position (on at a reply, off at a
 // report) and up again, keeping the first branch's worth in the position's cell
@@ -16,73 +16,65 @@ use sheet::Sheet;
 // broken part line, a report's second branch where the first is lost, and a
 // reply's where the first is unbeatable.
 //
-// No stack of branches is needed: the second branch is the one whose value is
+// A `loop`, since the length goes up and down; no stack of branches is needed: the second branch is the one whose value is
 // on at a report and off at a reply.
 pub(crate) fn walk_from<S: Scale, F: Sheet>(
     cells: &mut [S::Worth],
     sheet: &F,
-    start: usize,
-    from: Line,
+    from: PartLine,
 ) -> S::Worth
-    requires within { start ≤ (F.Sheet.prefix sheet.now).length }
+    requires within { from.length ≤ (F.Sheet.prefix sheet.now).length }
     requires cells { (F.Sheet.prefix sheet.now).length ≤ count cells.old }
-    ensures { result ≡ worth S.Scale.joins (F.Sheet.kept sheet.now) (drop start (kinds (F.Sheet.prefix sheet.now))) (bits start from.mask) }
+    ensures { result ≡ worth S.Scale.joins (F.Sheet.kept sheet.now) (drop from.length (kinds (F.Sheet.prefix sheet.now))) (bits from.length from.line.mask) }
 {
     let prefix = sheet.prefix();
     let n = prefix.len();
-    let mut length = start;
-    let mut line = from;
-    let mut worth = S::lost_worth();
-    let mut known = false;
+    let mut part = from;
+    let mut known: Option<S::Worth> = None;
     loop {
-        if !known {
-            if let Some(leaf) = leaf_worth::<S, F>(sheet, n, length, line) {
-                worth = leaf;
-                known = true;
-                continue;
+        match known {
+            None => {
+                known = leaf_worth::<S, F>(sheet, n, part);
+                if known.is_none() {
+                    part.length += 1;
+                    part.line = part.line.with(part.length, !prefix.is_report(part.length));
+                }
             }
-            length += 1;
-            line = line.with(length, !prefix.is_report(length));
-            continue;
+            Some(worth) => {
+                if part.length == from.length {
+                    return worth;
+                }
+                let last = part.length - 1;
+                let report = prefix.is_report(part.length);
+                if part.line.value(part.length) == report {
+                    known = Some(join::<S>(report, cells[last], worth));
+                    part.length = last;
+                } else if is_settled::<S>(report, worth) {
+                    known = Some(worth);
+                    part.length = last;
+                } else {
+                    cells[last] = worth;
+                    part.line = part.line.with(part.length, report);
+                    known = None;
+                }
+            }
         }
-        if length == start {
-            break;
-        }
-        let last = length - 1;
-        let report = prefix.is_report(length);
-        if line.value(length) == report {
-            worth = join::<S>(report, cells[last], worth);
-            length = last;
-            continue;
-        }
-        if is_settled::<S>(report, worth) {
-            length = last;
-            continue;
-        }
-        cells[last] = worth;
-        line = line.with(length, report);
-        known = false;
     }
-    worth
 }
 
 // The worth of a part line that needs no walking: lost where it is broken, won
 // where it is whole and not broken. The prefix has n positions.
-fn leaf_worth<S: Scale, F: Sheet>(
-    sheet: &F,
-    n: usize,
-    length: usize,
-    line: Line,
-) -> Option<S::Worth>
+#[tactic(auto, using(crate::proofs::Branches::answer_lost, crate::proofs::Branches::answer_won))]
+fn leaf_worth<S: Scale, F: Sheet>(sheet: &F, n: usize, part: PartLine) -> Option<S::Worth>
     requires n { n ≡ (F.Sheet.prefix sheet.now).length }
-    requires within { length ≤ n }
-    ensures { MatchOption result (length < n) (λ w. w ≡ worth S.Scale.joins (F.Sheet.kept sheet.now) (drop length (kinds (F.Sheet.prefix sheet.now))) (bits length line.mask)) }
+    requires within { part.length ≤ n }
+    ensures { MatchOption result (part.length < n) (λ w. w ≡ worth S.Scale.joins (F.Sheet.kept sheet.now) (drop part.length (kinds (F.Sheet.prefix sheet.now))) (bits part.length part.line.mask)) }
 {
-    if sheet.broken(length, line) {
-        return Some(S::lost_worth());
+    if sheet.broken(part) {
+        return Some(S::LOST);
     }
-    if length == n {
-        return Some(S::won_worth());
+    if part.length == n {
+        return Some(S::WON);
     }
     None
 }

@@ -1,4 +1,5 @@
 // The yes-no scale: can the box still win?
+ghost use Rattle.std.specs.Prelude.{refl};
 ghost use Rattle.worth.specs.Scales.{yes_no};
 ghost use Rattle.std.proofs.Common.{rules};
 
@@ -13,19 +14,19 @@ impl Scale for YesNo {
 
     const WON: bool = true;
 
+    ghost LOST = { yes_no.lost };
+
+    ghost WON = { yes_no.won };
+
     ghost joins = { yes_no };
+
+    ghost lost = { refl };
+
+    ghost won = { refl };
 
     ghost lawful = { Prim.search rules };
 
     ghost tells = { Prim.search rules };
-
-    fn lost_worth() -> bool {
-        Self::LOST
-    }
-
-    fn won_worth() -> bool {
-        Self::WON
-    }
 
     fn either(first: bool, second: bool) -> bool {
         first || second

@@ -28,11 +28,11 @@ impl PolicyCount {
     }
 }
 
+// By hand, since a derived message promises no `output`.
 impl fmt::Display for PolicyCount {
     ghost output = { λ c. Some (decimal c.value) };
 
     fn fmt<W: fmt::Write>(&self, f: &mut fmt::Formatter<W>) -> fmt::Result {
-        let value = self.value;
-        write!(f, "{value}")
+        write!(f, "{}", self.value)
     }
 }

@@ -1,6 +1,8 @@
 use Rattle.std.proofs.Common.{◌≡◌, ℕ, suc, ◌+◌, ◌-◌, ◌<◌, ◌≤◌, Bool, true, false, not, List, length, drop, sym, refl, ap, ◌∙◌, subst, add-one, arith}
 use mathlib.Core.Bool.{beq}
+use Rattle.std.specs.Option.{is_some}
 use Rattle.std.proofs.lemmas.List.{get_or_read}
+use Rattle.std.proofs.lemmas.Option.{MatchOption-at_none}
 use Rattle.prefix.specs.Bits.{bits, mask_value}
 use Rattle.prefix.specs.Kinds.{is_report}
 use Rattle.prefix.specs.Prefixes.{kinds}
@@ -11,7 +13,7 @@ use Rattle.prefix.proofs.Positions.{length-kinds}
 use Rattle.worth.specs.Scales.{joined}
 use Rattle.worth.specs.Worth.{worth}
 use Rattle.worth.proofs.Turns.{second, Down, Over, fewer_known, fewer_down, fewer_up, fewer_over}
-use Rattle.worth.proofs.Holding.{holds-start, holds-known, holds_down, holds_up, holds-cut, holds_over, holds_end}
+use Rattle.worth.proofs.Holding.{none_from, holds-start, holds_down, holds_up, holds-cut, holds_over, holds_end}
 use Rattle.worth.proofs.tree.walk_from.Given as given
 use Rattle.worth.proofs.tree.walk_from.Goals as goal
 
@@ -23,106 +25,107 @@ branch ks line d k value report b e v r t =
 pub loop-known-init : goal.loop-known-init
 loop-known-init g c =
     let p = c.prefix-prefix.result in
-    let within : c.args.start ≤ p.length = subst (λ (q : Prefix). c.args.start ≤ q.length) (sym c.prefix-prefix.ensures) c.requires.within in
-    holds-start _ _ _ _ _ _ _ _ (omega (arith, length-kinds p.length p.reports)) refl
+    let within : c.args.from.length ≤ p.length = subst (λ (q : Prefix). c.args.from.length ≤ q.length) (sym c.prefix-prefix.ensures) c.requires.within in
+    holds-start _ _ _ _ _ _ _ (omega (arith, length-kinds p.length p.reports)) refl
 
-pub loop-known-smaller-in-Some : goal.loop-known-smaller-in-Some
-loop-known-smaller-in-Some g c = fewer_known _ _ _ _ c.if-not-known.true
-
-pub loop-known-preserved-in-Some : goal.loop-known-preserved-in-Some
-loop-known-preserved-in-Some g c =
-    holds-known _ _ _ _ _ _ _ _ _ _ c.loop-known.invariant c.in-Some.leaf c.if-not-known.true
-    (c.in-Some.ensures ∙ ap (λ (q : Prefix). worth g.S.Scale.joins (g.F.Sheet.kept c.args.sheet.now) (drop c.loop-known.length (kinds q)) (bits c.loop-known.length c.loop-known.line.mask)) (sym c.prefix-prefix.ensures))
+pub loop-known-smaller-else-is_none : goal.loop-known-smaller-else-is_none
+loop-known-smaller-else-is_none g c = fewer_known _ _ _ _ _ (ap is_some c.in-None.is) (c.is_none.ensures ∙ ap not c.if-is_none.false)
 
 -- Going down: there is a next position, and the line has the first value there.
-down : (g : given.Over) (c : goal.After-with-line g) → Down (kinds c.prefix-prefix.result) c.loop-known.length c.loop-known.line.mask c.with-line.result.mask
+down : (g : given.Over) (c : goal.After-with-part g) → Down (kinds c.prefix-prefix.result) c.loop-known.part.length c.loop-known.part.line.mask c.with-part.result.mask
 down g c =
     let p = c.prefix-prefix.result in
-    let d = c.loop-known.length in
-    let line = c.loop-known.line.mask in
-    let to = c.with-line.result.mask in
+    let d = c.loop-known.part.length in
+    let line = c.loop-known.part.line.mask in
+    let to = c.with-part.result.mask in
     let next = add-one d in
     let long = length-kinds p.length p.reports in
+    let more : d < c.len-n.result = MatchOption-at_none _ _ (none_from _ (c.is_none.ensures ∙ ap not c.if-is_none.true)) c.leaf_worth-known.ensures in
     record {
-      inside = omega (arith, c.loop-known.invariant.within, c.len-n.ensures.value, c.in_default.ensures);
-      first = changed_here line (d + 1) d to _ c.with-line.ensures next (omega (arith, c.len-n.ensures.few, c.in_default.ensures)) ∙ ap not (c.is_report.ensures ∙ ap (is_report (kinds p)) next);
-      before = changed_before line (d + 1) d to _ c.with-line.ensures next;
+      inside = omega (arith, c.len-n.ensures.value);
+      first = changed_here line (d + 1) d to _ c.with-part.ensures next (omega (arith, c.len-n.ensures.few)) ∙ ap not (c.is_report.ensures ∙ ap (is_report (kinds p)) next);
+      before = changed_before line (d + 1) d to _ c.with-part.ensures next;
     }
 
-pub loop-known-smaller-then-not-known : goal.loop-known-smaller-then-not-known
-loop-known-smaller-then-not-known g c = let s = down g c in fewer_down _ _ _ _ _ c.if-not-known.true s.inside s.first s.before
+pub loop-known-smaller-then-is_none : goal.loop-known-smaller-then-is_none
+loop-known-smaller-then-is_none g c =
+    let s = down g c in fewer_down _ _ _ _ _ _ (ap is_some c.in-None.is) (c.is_none.ensures ∙ ap not c.if-is_none.true) s.inside s.first s.before
 
-pub loop-known-preserved-then-not-known : goal.loop-known-preserved-then-not-known
-loop-known-preserved-then-not-known g c =
-    let s = down g c in holds_down _ _ _ _ _ _ _ _ _ _ c.loop-known.invariant _ c.if-not-known.true s.inside s.first s.before
+pub loop-known-preserved-then-is_none : goal.loop-known-preserved-then-is_none
+loop-known-preserved-then-is_none g c =
+    let s = down g c in
+    holds_down _ _ _ _ _ _ _ _ _ c.loop-known.invariant _ c.in-None.is s.inside s.first s.before _ (none_from _ (c.is_none.ensures ∙ ap not c.if-is_none.true))
+
+pub returns-then-part-from : goal.returns-then-part-from
+returns-then-part-from g c =
+    let from = c.args.from in
+    holds_end _ _ _ _ _ _ _ _ _ c.loop-known.invariant _ c.in-Some.is c.if-part-from.true
+    ∙ ap (λ (q : Prefix). worth g.S.Scale.joins (g.F.Sheet.kept c.args.sheet.now) (drop from.length (kinds q)) (bits from.length from.line.mask)) c.prefix-prefix.ensures
 
 pub loop-known-smaller-then-value-report : goal.loop-known-smaller-then-value-report
 loop-known-smaller-then-value-report g c =
-    let d = c.loop-known.length in
+    let d = c.loop-known.part.length in
     let e : d ≡ suc (d - 1) = omega arith in
-    fewer_up _ d (d - 1) _ _ c.if-not-known.false e true (branch _ _ d (d - 1) _ _ true e c.value.ensures c.is_report-report.ensures c.if-value-report.true)
+    fewer_up _ d (d - 1) _ _ (ap is_some c.in-Some.is) e true (branch _ _ d (d - 1) _ _ true e c.value.ensures c.is_report-report.ensures c.if-value-report.true)
 
 pub loop-known-preserved-then-value-report : goal.loop-known-preserved-then-value-report
 loop-known-preserved-then-value-report g c =
     let p = c.prefix-prefix.result in
-    let d = c.loop-known.length in
+    let d = c.loop-known.part.length in
     let j = g.S.Scale.joins in
     let e : d ≡ suc (d - 1) = omega arith in
     let room : p.length ≤ length c.args.cells.now = subst (λ (q : Prefix). q.length ≤ length c.args.cells.now) (sym c.prefix-prefix.ensures) c.requires.cells in
     let cell = get_or_read c.loop-known.cells (d - 1) c.index-cells-last.result
     (omega (arith, c.loop-known.invariant.within, length-kinds p.length p.reports, c.loop-known.auto.cells)) c.index-cells-last.is j.lost in
-    holds_up _ _ _ _ _ _ _ _ _ _ c.loop-known.invariant (d - 1) e c.if-length-start.false c.index-cells-last.result c.join-worth.result c.if-not-known.false
+    holds_up _ _ _ _ _ _ _ _ _ c.loop-known.invariant _ c.in-Some.is (d - 1) e c.if-part-from.false c.index-cells-last.result c.join.result
     (branch _ _ d (d - 1) _ _ true e c.value.ensures c.is_report-report.ensures c.if-value-report.true) (sym cell)
-    (c.join-worth.ensures ∙ ap (λ (q : Bool). joined j q c.index-cells-last.result c.loop-known.worth) (c.is_report-report.ensures ∙ ap (is_report (kinds p)) e))
+    (c.join.ensures ∙ ap (λ (q : Bool). joined j q c.index-cells-last.result c.in-Some.worth) (c.is_report-report.ensures ∙ ap (is_report (kinds p)) e))
 
 pub loop-known-smaller-then-is_settled : goal.loop-known-smaller-then-is_settled
 loop-known-smaller-then-is_settled g c =
-    let d = c.loop-known.length in
+    let d = c.loop-known.part.length in
     let e : d ≡ suc (d - 1) = omega arith in
-    fewer_up _ d (d - 1) _ _ c.if-not-known.false e false (branch _ _ d (d - 1) _ _ false e c.value.ensures c.is_report-report.ensures c.if-value-report.false)
+    fewer_up _ d (d - 1) _ _ (ap is_some c.in-Some.is) e false (branch _ _ d (d - 1) _ _ false e c.value.ensures c.is_report-report.ensures c.if-value-report.false)
 
 pub loop-known-preserved-then-is_settled : goal.loop-known-preserved-then-is_settled
 loop-known-preserved-then-is_settled g c =
     let p = c.prefix-prefix.result in
-    let d = c.loop-known.length in
+    let d = c.loop-known.part.length in
     let j = g.S.Scale.joins in
     let e : d ≡ suc (d - 1) = omega arith in
     let report = c.is_report-report.ensures ∙ ap (is_report (kinds p)) e in
-    holds-cut _ _ _ _ _ _ _ _ _ _ c.loop-known.invariant (d - 1) e c.if-length-start.false c.if-not-known.false
+    holds-cut _ _ _ _ _ _ _ _ _ c.loop-known.invariant _ c.in-Some.is (d - 1) e c.if-part-from.false
     (branch _ _ d (d - 1) _ _ false e c.value.ensures c.is_report-report.ensures c.if-value-report.false)
-    (λ y. ap (λ (q : Bool). joined j q c.loop-known.worth y) (sym report) ∙ c.is_settled.ensures c.if-is_settled.true y)
+    (λ y. ap (λ (q : Bool). joined j q c.in-Some.worth y) (sym report) ∙ c.is_settled.ensures c.if-is_settled.true y)
 
 -- Going over: the line was in the first branch and has the second value now.
-over : (g : given.Over) (c : goal.After-with-line-in-loop-known g) → Over (kinds c.prefix-prefix.result) (c.loop-known.length - 1) c.loop-known.line.mask c.with-line-in-loop-known.result.mask
+over : (g : given.Over) (c : goal.After-with-part-else-is_settled g) → Over (kinds c.prefix-prefix.result) (c.loop-known.part.length - 1) c.loop-known.part.line.mask c.with-part-else-is_settled.result.mask
 over g c =
     let p = c.prefix-prefix.result in
-    let d = c.loop-known.length in
-    let line = c.loop-known.line.mask in
-    let to = c.with-line-in-loop-known.result.mask in
+    let d = c.loop-known.part.length in
+    let line = c.loop-known.part.line.mask in
+    let to = c.with-part-else-is_settled.result.mask in
     let e : d ≡ suc (d - 1) = omega arith in
     let few : d - 1 < 32 = omega (arith, c.loop-known.invariant.within, length-kinds p.length p.reports) in
     record {
       was = branch _ _ d (d - 1) _ _ false e c.value.ensures c.is_report-report.ensures c.if-value-report.false;
-      second = changed_here line d (d - 1) to _ c.with-line-in-loop-known.ensures e few ∙ c.is_report-report.ensures ∙ ap (is_report (kinds p)) e;
-      before = changed_before line d (d - 1) to _ c.with-line-in-loop-known.ensures e;
+      second = changed_here line d (d - 1) to _ c.with-part-else-is_settled.ensures e few ∙ c.is_report-report.ensures ∙ ap (is_report (kinds p)) e;
+      before = changed_before line d (d - 1) to _ c.with-part-else-is_settled.ensures e;
     }
 
 pub loop-known-smaller : goal.loop-known-smaller
 loop-known-smaller g c =
     let s = over g c in
-    let e : c.loop-known.length ≡ suc (c.loop-known.length - 1) = omega arith in
-    fewer_over _ _ _ _ _ _ c.if-not-known.false e s.was s.second s.before
+    let d = c.loop-known.part.length in
+    let e : d ≡ suc (d - 1) = omega arith in
+    fewer_over _ _ _ _ _ _ (ap is_some c.in-Some.is) e s.was s.second s.before
 
 pub loop-known-preserved : goal.loop-known-preserved
 loop-known-preserved g c =
     let p = c.prefix-prefix.result in
     let s = over g c in
-    let e : c.loop-known.length ≡ suc (c.loop-known.length - 1) = omega arith in
+    let d = c.loop-known.part.length in
+    let e : d ≡ suc (d - 1) = omega arith in
     let room : p.length ≤ length c.args.cells.now = subst (λ (q : Prefix). q.length ≤ length c.args.cells.now) (sym c.prefix-prefix.ensures) c.requires.cells in
-    holds_over _ _ _ _ _ _ _ _ _ _ c.loop-known.invariant _ e c.if-length-start.false _ c.if-not-known.false
+    holds_over _ _ _ _ _ _ _ _ _ c.loop-known.invariant _ c.in-Some.is _ e c.if-part-from.false _
     (omega (arith, c.loop-known.invariant.within, length-kinds p.length p.reports, c.loop-known.auto.cells)) s.was s.second s.before
-
-pub returns : goal.returns
-returns g c =
-    holds_end _ _ _ _ _ _ _ _ _ _ c.loop-known.invariant c.if-not-known.false c.if-length-start.true
-    ∙ ap (λ (q : Prefix). worth g.S.Scale.joins (g.F.Sheet.kept c.args.sheet.now) (drop c.args.start (kinds q)) (bits c.args.start c.args.from.mask)) c.prefix-prefix.ensures

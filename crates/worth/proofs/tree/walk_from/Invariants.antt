@@ -1,3 +1,4 @@
+use Rattle.std.specs.Option.{is_some}
 use Rattle.prefix.specs.Bits.{bits}
 use Rattle.prefix.specs.Prefixes.{kinds}
 use Rattle.worth.proofs.Climb.{deep}
@@ -10,7 +11,7 @@ invariant-loop-known g l =
     let j = g.S.Scale.joins in
     let kept = g.F.Sheet.kept l.sheet in
     let ks = kinds l.prefix in
-    Holds j kept ks l.start (deep j kept ks l.start (bits l.start l.initial.line.mask)) l.length l.line.mask l.cells l.worth l.known
+    Holds j kept ks l.from.length (deep j kept ks l.from.length (bits l.from.length l.from.line.mask)) l.part.length l.part.line.mask l.cells l.known
 
 abbrev pub decreases-loop-known : goal.decreases-loop-known
-decreases-loop-known g l = left (kinds l.prefix) l.length l.line.mask l.known
+decreases-loop-known g l = left (kinds l.prefix) l.part.length l.part.line.mask (is_some l.known)
