@@ -5,29 +5,34 @@ ghost use Rattle.faults.specs.declared.sheet.SheetFault.TheVariants.{Text};
 
 use crate::layer::Layer;
 use crate::text::TextFault;
-use std::fmt;
+use thiserror::Error;
 
 // A place is that of the word, or of the line end
 // where a word is missing, in bytes from 0.
-#[derive(Clone, Copy, PartialEq, Eq, Debug)]
+#[derive(Clone, Copy, PartialEq, Eq, Debug, Error)]
 pub enum SheetFault {
+    #[error(transparent)]
     Text(TextFault),
-    // no number where one is wanted
+    #[error("a number is wanted here")]
     NoNumber { place: usize },
-    // any other wrong, extra or missing word
+    #[error("a wrong, extra or missing word")]
     Word { place: usize },
-    // a number of variables, of rules or of reports, or a variable, past its limit
+    // of variables, of rules or of reports, or a variable itself
+    #[error("a number past its limit")]
     Limit { place: usize },
-    // a variable twice in the quantifier lines or in one rule
+    // in the quantifier lines or in one rule
+    #[error("this variable was named before")]
     Repeated { place: usize },
-    // a variable in no quantifier line
+    #[error("a variable stands in no quantifier line")]
     Unnamed { place: usize },
-    // not as many rules as the header says
+    #[error("not as many rules as the header says")]
     RuleCount { place: usize },
-    // the caller's table is shorter than the rules
+    // the caller's table
+    #[error("the table of rules is too short")]
     TableTooShort,
 }
 
+// By hand: `#[from]` of the derive says nothing of the fault that it makes.
 impl From<TextFault> for SheetFault {
     ghost from_gives = { λ t s. s ≡ Text t };
 
@@ -59,12 +64,12 @@ impl SheetFault {
     {
         match self {
             SheetFault::Text(fault) => fault.place(),
-            SheetFault::NoNumber { place } => place,
-            SheetFault::Word { place } => place,
-            SheetFault::Limit { place } => place,
-            SheetFault::Repeated { place } => place,
-            SheetFault::Unnamed { place } => place,
-            SheetFault::RuleCount { place } => place,
+            SheetFault::NoNumber { place }
+            | SheetFault::Word { place }
+            | SheetFault::Limit { place }
+            | SheetFault::Repeated { place }
+            | SheetFault::Unnamed { place }
+            | SheetFault::RuleCount { place } => place,
             SheetFault::TableTooShort => 0,
         }
     }
@@ -75,21 +80,6 @@ impl SheetFault {
         match self {
             SheetFault::Text(fault) => fault.layer(),
             _ => Layer::Sheet,
-        }
-    }
-}
-
-impl fmt::Display for SheetFault {
-    fn fmt<W: fmt::Write>(&self, f: &mut fmt::Formatter<W>) -> fmt::Result {
-        match self {
-            SheetFault::Text(fault) => write!(f, "{fault}"),
-            SheetFault::NoNumber { .. } => write!(f, "a number is wanted here"),
-            SheetFault::Word { .. } => write!(f, "a wrong, extra or missing word"),
-            SheetFault::Limit { .. } => write!(f, "a number past its limit"),
-            SheetFault::Repeated { .. } => write!(f, "this variable was named before"),
-            SheetFault::Unnamed { .. } => write!(f, "a variable stands in no quantifier line"),
-            SheetFault::RuleCount { .. } => write!(f, "not as many rules as the header says"),
-            SheetFault::TableTooShort => write!(f, "the table of rules is too short"),
         }
     }
 }

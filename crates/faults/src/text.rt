@@ -3,15 +3,17 @@ ghost use Rattle.std.specs.Prelude.{◌≡◌};
 ghost use Rattle.faults.specs.Faults.{text_number, text_place, text_layer};
 
 use crate::layer::Layer;
-use std::fmt;
+use thiserror::Error;
 
 // A fault of the text itself, whatever its words would say.
-#[derive(Clone, Copy, PartialEq, Eq, Debug)]
+#[derive(Clone, Copy, PartialEq, Eq, Debug, Error)]
 pub enum TextFault {
-    // a byte that is neither a line end nor a printable character
+    #[error("a byte that is neither a line end nor a printable character")]
     Byte { place: usize },
 }
 
+// `SheetFault` and the jobs' faults have methods of the same names. No trait has them:
+// nothing takes a fault of any type, and each caller would have to import it.
 impl TextFault {
     // The refusal's number.
     pub fn number(self) -> u8
@@ -36,17 +38,6 @@ impl TextFault {
     {
         match self {
             TextFault::Byte { .. } => Layer::Text,
-        }
-    }
-}
-
-impl fmt::Display for TextFault {
-    fn fmt<W: fmt::Write>(&self, f: &mut fmt::Formatter<W>) -> fmt::Result {
-        match self {
-            TextFault::Byte { .. } => write!(
-                f,
-                "a byte that is neither a line end nor a printable character"
-            ),
         }
     }
 }
