@@ -1,9 +1,9 @@
-use Rattle.std.proofs.Common.{◌≡◌, ℕ, ◌+◌, ◌-◌, ◌*◌, ◌^◌, ◌<◌, ◌≤◌, false, cond, ◌&&◌, eqb, ltb, leb, ◌⊎◌, List, [], ◌∷◌, ◌++◌, length, get_or, take, drop, None, sym, refl, ap, ◌∙◌, ⊎_elim, pow-suc, add-one, arith, get_or-drop}
-use native.Mathlib.Nat.{pow-le-pow_right}
-use Rattle.std.proofs.lemmas.List.{at_drop_more, get_or_append_left, get_or_at, length-append, take_more, length-drop, take_rest}
-use Rattle.std.proofs.lemmas.Bool.{cond-true, cond-false, eq-eqb, ne_eqb, le-leb, and_from, cases_eq, cases_lt, lt-ltb, le-ltb}
+use Rattle.std.proofs.Common.{◌≡◌, ℕ, zero, suc, ◌+◌, ◌-◌, ◌<◌, ◌≤◌, cond, eqb, ◌⊎◌, List, [], ◌∷◌, ◌++◌, length, get_or, take, drop, sym, refl, ap, ◌∙◌, subst, inr, ⊎_elim, arith, get_or-drop}
+use Rattle.std.proofs.lemmas.List.{at_drop_more, get_or_append_left, get_or_at, length-append, take_more, length-drop, drop_all, get_or-take, length-take-le}
+use Rattle.std.proofs.lemmas.Bool.{cases_eq, cases_lt}
 use Rattle.std.proofs.lemmas.Bool.Decides.{nat_tests}
-use Rattle.sheet_text.specs.Words.{line_end, next, bad, Open, gap, within, printable, closed, more, cut, ended, tokens_from, digits_on, natural_of, sort_word, numeral_of, negated, unsigned}
+use Rattle.sheet_text.specs.Bytes.{EachBefore, Space, Inner, Printable}
+use Rattle.sheet_text.specs.Words.{line_end, stop, next, bad, Open, gap, within, closed, more, cut, ended, tokens_from, digits_on, natural_of, sort_word}
 
 pub ended_in : (t : List ℕ) (i : ℕ) → i < length t → get_or (ended t) i 0 ≡ get_or t i 0
 ended_in t i h = get_or_append_left t (10 ∷ []) 0 i h
@@ -17,19 +17,19 @@ inside t i h = simp length-append (omega arith)
 module _ (o : Open) (p b : ℕ) (bs : List ℕ) where
   pub on_space : b ≡ 32 → cut o p (b ∷ bs) ≡ closed o (cut gap (p + 1) bs)
   unfolding cut
-  on_space e = cond-true _ _ _ (eq-eqb b 32 e)
+  on_space e = grind (arith, nat_tests)
 
   pub on_line : b ≡ 10 → cut o p (b ∷ bs) ≡ closed o (next (line_end p) (cut gap (p + 1) bs))
   unfolding cut
-  on_line e = cond-false _ _ _ (ne_eqb b 32 (λ f. omega arith)) ∙ cond-true _ _ _ (eq-eqb b 10 e)
+  on_line e = grind (arith, nat_tests)
 
   pub on_printable : (b ≡ 32 → ⊥) → (b ≡ 10 → ⊥) → 32 ≤ b → b ≤ 126 → cut o p (b ∷ bs) ≡ cut (more o p b) (p + 1) bs
   unfolding cut
-  on_printable a c low high = cond-false _ _ _ (ne_eqb b 32 a) ∙ cond-false _ _ _ (ne_eqb b 10 c) ∙ cond-true _ _ _ (and_from (leb 32 b) (leb b 126) (le-leb 32 b low) (le-leb b 126 high))
+  on_printable a c low high = grind (arith, nat_tests)
 
   pub on_bad : (b ≡ 32 → ⊥) → (b ≡ 10 → ⊥) → (b < 32) ⊎ (126 < b) → cut o p (b ∷ bs) ≡ bad p
   unfolding cut
-  on_bad a c out = cond-false _ _ _ (ne_eqb b 32 a) ∙ cond-false _ _ _ (ne_eqb b 10 c) ∙ cond-false _ _ _ (let e : printable b ≡ false = grind (arith, nat_tests) in e)
+  on_bad a c out = grind (arith, nat_tests)
 
 module _ (t : List ℕ) (o : Open) (p b : ℕ) (h : p ≤ length t) (is : b ≡ get_or (ended t) p 0) where
   pub front : tokens_from t o p ≡ cut o p (b ∷ drop (p + 1) (ended t))
@@ -52,10 +52,10 @@ abbrev pub open_at : List ℕ → ℕ → ℕ → Open
 open_at t from i = cond (eqb i from) gap (within from (take (i - from) (drop from t)))
 
 pub open_within : (t : List ℕ) (from i : ℕ) → from < i → open_at t from i ≡ within from (take (i - from) (drop from t))
-open_within t from i h = cond-false _ _ _ (ne_eqb i from (λ e. omega arith))
+open_within t from i h = grind (arith, nat_tests)
 
 pub open_gap : (t : List ℕ) (from i : ℕ) → i ≡ from → open_at t from i ≡ gap
-open_gap t from i e = cond-true _ _ _ (eq-eqb i from e)
+open_gap t from i e = grind (arith, nat_tests)
 
 pub open_more : (t : List ℕ) (from i b : ℕ) → from ≤ i → i < length t → b ≡ get_or t i 0 → more (open_at t from i) i b ≡ open_at t from (i + 1)
 open_more t from i b h k is =
@@ -69,34 +69,9 @@ open_more t from i b h k is =
     (λ l. ap (λ o. more o i b) (open_within t from i (let z : from < i = omega arith in z)) ∙ ap (within from) (sym next) ∙ sym (open_within t from (i + 1) (omega arith)))
     (cases_eq i from)
 
-pub digits_stop : (v : ℕ) (t : List ℕ) (i b : ℕ) → i < length t → b ≡ get_or t i 0 → (b < 48) ⊎ (57 < b) → digits_on v (drop i t) ≡ None
-digits_stop v t i b h is out = at_drop_more (digits_on v) t i 0 h ∙ ap (λ x. digits_on v (x ∷ drop (i + 1) t)) (sym is) ∙ stop_at v b (drop (i + 1) t) out
-  where
-    stop_at : (v b : ℕ) (bs : List ℕ) → (b < 48) ⊎ (57 < b) → digits_on v (b ∷ bs) ≡ None
-    stop_at v b bs out = ⊎_elim (λ l. cond-true _ _ _ (lt-ltb b 48 l)) (λ l. cond-false _ _ _ (le-ltb b 48 (omega arith)) ∙ cond-true _ _ _ (lt-ltb 57 b l)) out
-
-pub digits_more : (v : ℕ) (t : List ℕ) (i b : ℕ) → i < length t → b ≡ get_or t i 0 → 48 ≤ b → b ≤ 57 → digits_on v (drop i t) ≡ digits_on (v * 10 + (b - 48)) (drop (i + 1) t)
-digits_more v t i b h is low high = at_drop_more (digits_on v) t i 0 h ∙ ap (λ x. digits_on v (x ∷ drop (i + 1) t)) (sym is) ∙ cond-false _ _ _ (le-ltb b 48 low) ∙ cond-false _ _ _ (le-ltb 57 b high)
-
 pub natural_of_is : (t : List ℕ) → 0 < length t → length t ≤ 6 → (get_or t 0 0 ≡ 48 → 1 < length t → ⊥) → natural_of t ≡ digits_on 0 t
 natural_of_is [] a b f = absurd (omega arith)
-natural_of_is (x ∷ t) a b f = cond-false _ _ _ (le-ltb 6 (length (x ∷ t)) b) ∙ cond-false _ _ _ (let e : (eqb x 48 && ltb 1 (length (x ∷ t))) ≡ false = grind (arith, nat_tests) in e)
-
-pub pow_bound : (i : ℕ) → i ≤ 6 → 10 ^ i ≤ 1000000
-pow_bound i h = pow-le-pow_right (let z : 0 < 10 = omega arith in z) h
-
-pub ten_more : (v d i : ℕ) → v < 10 ^ i → d ≤ 9 → v * 10 + d < 10 ^ (i + 1)
-ten_more v d i h k = rw (add-one, pow-suc 10 i) (omega arith)
-
-pub number-negated : (t : List ℕ) → 0 < length t → get_or t 0 0 ≡ 45 → numeral_of t ≡ negated (natural_of (take (length t - 1) (drop 1 t)))
-unfolding numeral_of
-number-negated [] h e = absurd (omega arith)
-number-negated (b ∷ t) h e = cond-true _ _ _ (eq-eqb b 45 e) ∙ ap (λ l. negated (natural_of l)) (sym (take_rest (b ∷ t) 1))
-
-pub number-unsigned : (t : List ℕ) → (0 < length t → get_or t 0 0 ≡ 45 → ⊥) → numeral_of t ≡ unsigned (natural_of t)
-unfolding numeral_of
-number-unsigned [] h = refl
-number-unsigned (b ∷ t) h = cond-false _ _ _ (ne_eqb b 45 (h (omega arith)))
+natural_of_is (x ∷ t) a b f = grind (arith, nat_tests)
 
 pub not_last : (t : List ℕ) (i b : ℕ) → i ≤ length t → b ≡ get_or (ended t) i 0 → (b ≡ 10 → ⊥) → i < length t
 not_last t i b h is ne = ⊎_elim (λ l. l) (λ l. absurd (ne (is ∙ ended_at t i h l))) (cases_lt i (length t))
@@ -116,8 +91,92 @@ scan_more t from i b h k is s l low high inv =
     inv ∙ cut-printable t (open_at t from i) i b k is s l low high ∙ ap (λ o. tokens_from t o (i + 1)) (open_more t from i b h lt (is ∙ ended_in t i lt))
 
 pub scan_some : (t : List ℕ) (from i b : ℕ) → from ≤ i → b ≡ get_or (ended t) i 0 → (b ≡ 32) ⊎ (b ≡ 10) → (get_or (ended t) from 0 ≡ 32 → ⊥) → (get_or (ended t) from 0 ≡ 10 → ⊥) → from < i
-scan_some t from i b h is end s l =
-    ⊎_elim
-    (λ e. let at : get_or (ended t) from 0 ≡ b = ap (λ n. get_or (ended t) n 0) (sym e) ∙ sym is in absurd (⊎_elim (λ f. s (at ∙ f)) (λ f. l (at ∙ f)) end))
-    (λ n. omega arith)
-    (cases_eq i from)
+scan_some t from i b h is end s l = grind (arith, nat_tests)
+
+pub over : (t : List ℕ) (p : ℕ) → length t < p → tokens_from t gap p ≡ stop
+unfolding cut
+over t p h = ap (cut gap p) (drop_all p (ended t) (simp length-append (omega arith)))
+
+-- An element of a slice of the text.
+pub at_slice : (t : List ℕ) (a n k : ℕ) → k < n → get_or (take n (drop a t)) k 0 ≡ get_or t (a + k) 0
+at_slice t a n k h = get_or-take n (drop a t) k 0 h ∙ get_or-drop a t k 0
+
+pub skip_spaces : (t : List ℕ) (p n : ℕ) → p + n ≤ length t → ((k : ℕ) → k < n → get_or t (p + k) 0 ≡ 32) → tokens_from t gap p ≡ tokens_from t gap (p + n)
+skip_spaces t p zero h all = ap (tokens_from t gap) (omega arith)
+skip_spaces t p (suc n) h all =
+    let here : get_or t p 0 ≡ 32 = ap (λ (i : ℕ). get_or t i 0) (let e : p ≡ p + 0 = omega arith in e) ∙ all 0 (omega arith) in
+    cut_space t gap p (get_or (ended t) p 0) (omega arith) refl (ended_in t p (omega arith) ∙ here)
+    ∙ skip_spaces t (p + 1) n (omega arith) (λ k l. ap (λ (i : ℕ). get_or t i 0) (let e : p + 1 + k ≡ p + suc k = omega arith in e) ∙ all (suc k) (omega arith))
+    ∙ ap (tokens_from t gap) (let e : p + 1 + n ≡ p + suc n = omega arith in e)
+
+-- The first n bytes of the word from a place on.
+pub word_read : (t : List ℕ) (from n : ℕ) → from + n ≤ length t → ((k : ℕ) → k < n → Inner (get_or t (from + k) 0)) → ((k : ℕ) → k < n → Printable (get_or t (from + k) 0))
+    → tokens_from t gap from ≡ tokens_from t (open_at t from (from + n)) (from + n)
+word_read t from zero h inner print = grind (arith, nat_tests)
+word_read t from (suc n) h inner print =
+    let b = get_or t (from + n) 0 in
+    let sound = inner n (omega arith) in
+    let fair = print n (omega arith) in
+    scan_more t from (from + n) b (omega arith) (omega arith) (sym (ended_in t (from + n) (omega arith))) sound.0 sound.1 fair.0 fair.1
+    (word_read t from n (omega arith) (λ k l. inner k (omega arith)) (λ k l. print k (omega arith)))
+    ∙ ap (λ (i : ℕ). tokens_from t (open_at t from i) i) (let e : from + n + 1 ≡ from + suc n = omega arith in e)
+
+-- The byte at a place, where a line's end or the text's is.
+end_at : (t : List ℕ) (i : ℕ) → i ≤ length t → (i ≡ length t) ⊎ (get_or t i 0 ≡ 10) → 10 ≡ get_or (ended t) i 0
+end_at t i h e =
+    ⊎_elim (λ (l : i < length t). ⊎_elim (λ (z : i ≡ length t). absurd (omega arith)) (λ (z : get_or t i 0 ≡ 10). sym (ended_in t i l ∙ z)) e)
+    (λ (l : length t ≤ i). sym (ended_at t i h l)) (cases_lt i (length t))
+
+-- What follows some spaces.
+module _ (t : List ℕ) (a s : ℕ) (in_text : a + s ≤ length t) (spaces : EachBefore s Space (take (length t - a) (drop a t))) where
+  skipped : tokens_from t gap a ≡ tokens_from t gap (a + s)
+  skipped = skip_spaces t a s in_text (λ k h. sym (at_slice t a (length t - a) k (omega arith)) ∙ spaces k h)
+
+  pub line_drawn : (a + s ≡ length t) ⊎ (get_or t (a + s) 0 ≡ 10) → tokens_from t gap a ≡ next (line_end (a + s)) (tokens_from t gap (a + s + 1))
+  line_drawn e = skipped ∙ cut_line t gap (a + s) 10 in_text (end_at t (a + s) in_text e) refl
+
+  -- A word of n bytes stands there.
+  module _ (n : ℕ) (more : a + s < length t) (whole : n ≤ length (take (length t - (a + s)) (drop (a + s) t))) (inner : EachBefore n Inner (take (length t - (a + s)) (drop (a + s) t))) where
+    long : length (take (length t - (a + s)) (drop (a + s) t)) ≡ length t - (a + s)
+    long = length-take-le (length t - (a + s)) (drop (a + s) t) (simp length-drop (omega arith))
+
+    inside_text : a + s + n ≤ length t
+    inside_text = omega (arith, long)
+
+    exact : length (take (a + s + n - (a + s)) (drop (a + s) t)) ≡ n
+    exact = let inside = inside_text in length-take-le (a + s + n - (a + s)) (drop (a + s) t) (simp length-drop (omega arith)) ∙ (let e : a + s + n - (a + s) ≡ n = omega arith in e)
+
+    read : (m : ℕ) → m ≤ n → EachBefore m Printable (take (a + s + n - (a + s)) (drop (a + s) t)) → tokens_from t gap (a + s) ≡ tokens_from t (open_at t (a + s) (a + s + m)) (a + s + m)
+    read m part fair =
+        let inside = inside_text in
+        word_read t (a + s) m (omega arith)
+        (λ k h. subst Inner (at_slice t (a + s) (length t - (a + s)) k (omega arith)) (inner k (omega arith)))
+        (λ k h. subst Printable (at_slice t (a + s) (a + s + n - (a + s)) k (omega arith)) (fair k h))
+
+    pub bad_drawn : (m : ℕ) → m < length (take (a + s + n - (a + s)) (drop (a + s) t)) → EachBefore m Printable (take (a + s + n - (a + s)) (drop (a + s) t))
+        → (get_or (take (a + s + n - (a + s)) (drop (a + s) t)) m 0 < 32) ⊎ (126 < get_or (take (a + s + n - (a + s)) (drop (a + s) t)) m 0) → tokens_from t gap a ≡ bad (a + s + m)
+    bad_drawn m within_word fair out =
+        let inside = inside_text in
+        let l : m < n = omega (arith, exact) in
+        let b = get_or t (a + s + m) 0 in
+        let inner_b : Inner b = subst Inner (at_slice t (a + s) (length t - (a + s)) m (omega arith)) (inner m l) in
+        let out_b : (b < 32) ⊎ (126 < b) = subst (λ (b : ℕ). (b < 32) ⊎ (126 < b)) (at_slice t (a + s) (a + s + n - (a + s)) m (omega arith)) out in
+        skipped ∙ read m (omega arith) fair ∙ cut-bad t _ (a + s + m) b (omega arith) (sym (ended_in t (a + s + m) (omega arith))) inner_b.0 inner_b.1 out_b
+
+    pub word_drawn : (s < length (take (length t - a) (drop a t)) → get_or (take (length t - a) (drop a t)) s 0 ≡ 32 → ⊥) → (get_or t (a + s) 0 ≡ 10 → ⊥)
+        → (n < length (take (length t - (a + s)) (drop (a + s) t)) → (get_or (take (length t - (a + s)) (drop (a + s) t)) n 0 ≡ 32) ⊎ (get_or (take (length t - (a + s)) (drop (a + s) t)) n 0 ≡ 10))
+        → EachBefore (length (take (a + s + n - (a + s)) (drop (a + s) t))) Printable (take (a + s + n - (a + s)) (drop (a + s) t))
+        → tokens_from t gap a ≡ next (sort_word (take (a + s + n - (a + s)) (drop (a + s) t)) (a + s)) (tokens_from t gap (a + s + n))
+    word_drawn no_space no_line stops fair =
+        let inside = inside_text in
+        let size = long in
+        let b = get_or (ended t) (a + s + n) 0 in
+        let end : (b ≡ 32) ⊎ (b ≡ 10) = ⊎_elim
+        (λ (l : a + s + n < length t).
+        let is : b ≡ get_or (take (length t - (a + s)) (drop (a + s) t)) n 0 = ended_in t (a + s + n) l ∙ sym (at_slice t (a + s) (length t - (a + s)) n (omega arith)) in
+        subst (λ (b : ℕ). (b ≡ 32) ⊎ (b ≡ 10)) (sym is) (stops (omega arith)))
+        (λ (l : length t ≤ a + s + n). inr (ended_at t (a + s + n) inside l)) (cases_lt (a + s + n) (length t)) in
+        let first = ended_in t (a + s) more in
+        let start : get_or (ended t) (a + s) 0 ≡ 32 → ⊥ = λ e. no_space (omega (arith, length-take-le (length t - a) (drop a t) (simp length-drop (omega arith)))) (at_slice t a (length t - a) s (omega arith) ∙ sym first ∙ e) in
+        let some : a + s < a + s + n = scan_some t (a + s) (a + s + n) b (omega arith) refl end start (λ e. no_line (sym first ∙ e)) in
+        skipped ∙ scan_end t (a + s) (a + s + n) b (omega arith) inside refl end some (read n (omega arith) (λ k h. fair k (omega (arith, exact))))

@@ -1,11 +1,12 @@
 -- Variables that are all different and as many as there may be are all there.
-use Rattle.std.proofs.Common.{◌≡◌, ℕ, zero, suc, ◌≤◌, true, false, cond, eqb, List, [], ◌∷◌, length, sym, refl, ap, ◌∙◌, subst, ⊎_elim, arith}
+use Rattle.std.proofs.lemmas.Bool.Decides.{nat_tests}
+use Rattle.std.proofs.Common.{All, ◌≡◌, ℕ, zero, suc, ◌≤◌, true, false, cond, eqb, List, [], ◌∷◌, length, sym, refl, ap, ◌∙◌, subst, ⊎_elim, arith}
 use Rattle.std.proofs.lemmas.List.{length-map}
-use Rattle.std.proofs.lemmas.Bool.{cases_Bool, cases_eq, cond-true, cond-false, eqb-true, eqb-false}
-use Rattle.std.specs.List.{AllByRecursion}
+use Rattle.std.proofs.lemmas.Bool.{cases_Bool, cases_eq, cond-true, eqb-true, eqb-false}
+use Rattle.std.proofs.lemmas.List.Elements.{All-nil, All-cons, All-head, All-tail}
 use Rattle.prefix.specs.declared.kind.Kind.TheVariants.{Reply}
-use Rattle.sheet_text.specs.Grammar.{Variable, variable, order, one_more, position_in, Once, Ranges, EachNamed}
-use Rattle.sheet_text.proofs.Naming.{absent_parts, position_after}
+use Rattle.sheet_text.specs.Grammar.{Variable, variable, order, one_more, position_in, Once, EachNamed}
+use Rattle.sheet_text.proofs.Naming.{Ranged, absent_parts, position_after}
 
 -- The order without a variable.
 abbrev removed : ℕ → List Variable → List Variable
@@ -14,10 +15,10 @@ removed v (q ∷ qs) = cond (eqb v q.name) qs (q ∷ removed v qs)
 
 module _ (v : ℕ) (q : Variable) (qs : List Variable) where
   removed_here : eqb v q.name ≡ true → removed v (q ∷ qs) ≡ qs
-  removed_here e = cond-true (eqb v q.name) qs (q ∷ removed v qs) e
+  removed_here e = grind (arith, nat_tests)
 
   removed_later : eqb v q.name ≡ false → removed v (q ∷ qs) ≡ q ∷ removed v qs
-  removed_later e = cond-false (eqb v q.name) qs (q ∷ removed v qs) e
+  removed_later e = grind (arith, nat_tests)
 
 one_more-some : (k : ℕ) → (one_more k ≡ 0 → ⊥) → k ≡ 0 → ⊥
 one_more-some k ne e = ne (ap one_more e)
@@ -53,29 +54,30 @@ removed_once v (q ∷ qs) o =
     (λ (f : eqb v q.name ≡ false). subst Once (sym (removed_later v q qs f)) (removed_absent v q.name qs o.0, removed_once v qs o.1))
     (cases_Bool (eqb v q.name))
 
-removed_all : (P : Variable → Type 0) (v : ℕ) (qs : List Variable) → AllByRecursion P qs → AllByRecursion P (removed v qs)
-removed_all P v [] h = tt
+removed_all : (P : Variable → Type 0) (v : ℕ) (qs : List Variable) → All P qs → All P (removed v qs)
+removed_all P v [] h = All-nil P
 removed_all P v (q ∷ qs) h =
-    ⊎_elim (λ (t : eqb v q.name ≡ true). subst (AllByRecursion P) (sym (removed_here v q qs t)) h.1)
-    (λ (f : eqb v q.name ≡ false). subst (AllByRecursion P) (sym (removed_later v q qs f)) (h.0, removed_all P v qs h.1))
+    ⊎_elim (λ (t : eqb v q.name ≡ true). subst (All P) (sym (removed_here v q qs t)) (All-tail P q qs h))
+    (λ (f : eqb v q.name ≡ false). subst (All P) (sym (removed_later v q qs f)) (All-cons P q (removed v qs) (All-head P q qs h) (removed_all P v qs (All-tail P q qs h))))
     (cases_Bool (eqb v q.name))
 
 -- Without the last variable the others come before it.
-narrower : (n : ℕ) (qs : List Variable) → AllByRecursion (λ q. Ranges (suc n) q.name) qs → position_in qs (suc n) ≡ 0 → AllByRecursion (λ q. Ranges n q.name) qs
-narrower n [] r e = tt
+narrower : (n : ℕ) (qs : List Variable) → All (Ranged (suc n)) qs → position_in qs (suc n) ≡ 0 → All (Ranged n) qs
+narrower n [] r e = All-nil (Ranged n)
 narrower n (q ∷ qs) r e =
     let apart = absent_parts q qs (suc n) e in
     let other : suc n ≡ q.name → ⊥ = apart.0 in
-    ((r.0.0, omega (arith, r.0.1)), narrower n qs r.1 apart.1)
+    let here : Ranged (suc n) q = All-head (Ranged (suc n)) q qs r in
+    All-cons (Ranged n) q qs (here.0, omega (arith, here.1)) (narrower n qs (All-tail (Ranged (suc n)) q qs r) apart.1)
 
 -- At most n variables from 1 to n are all different.
-at_most : (n : ℕ) (qs : List Variable) → Once qs → AllByRecursion (λ q. Ranges n q.name) qs → length qs ≤ n
+at_most : (n : ℕ) (qs : List Variable) → Once qs → All (Ranged n) qs → length qs ≤ n
 at_most zero [] o r = omega arith
-at_most zero (q ∷ qs) o r = absurd (omega (arith, r.0.0, r.0.1))
+at_most zero (q ∷ qs) o r = let here : Ranged 0 q = All-head (Ranged 0) q qs r in absurd (omega (arith, here.0, here.1))
 at_most (suc n) qs o r =
     ⊎_elim (λ (e : position_in qs (suc n) ≡ 0). omega (arith, at_most n qs o (narrower n qs r e)))
     (λ (ne : position_in qs (suc n) ≡ 0 → ⊥).
-    let rest = at_most n (removed (suc n) qs) (removed_once (suc n) qs o) (narrower n (removed (suc n) qs) (removed_all (λ q. Ranges (suc n) q.name) (suc n) qs r) (removed_gone (suc n) qs o)) in
+    let rest = at_most n (removed (suc n) qs) (removed_once (suc n) qs o) (narrower n (removed (suc n) qs) (removed_all (Ranged (suc n)) (suc n) qs r) (removed_gone (suc n) qs o)) in
     omega (arith, removed_one (suc n) qs ne))
     (cases_eq (position_in qs (suc n)) 0)
 
@@ -95,5 +97,5 @@ each-named t s h v range =
     let qs = order h.quantifiers in
     let n = length s.kinds in
     let long : length qs ≡ n = sym (ap length h.kinds ∙ length-map qs (λ q. q.kind)) in
-    let some : position_in qs v ≡ 0 → ⊥ = λ e. omega (arith, at_most n (variable Reply v ∷ qs) (e, h.once) (range, h.named)) in
+    let some : position_in qs v ≡ 0 → ⊥ = λ e. omega (arith, at_most n (variable Reply v ∷ qs) (e, h.once) (All-cons (Ranged n) (variable Reply v) qs range h.named)) in
     (omega arith, omega (arith, position_le qs v))

@@ -1,31 +1,31 @@
 -- How comments and the header line are read.
 use Rattle.std.proofs.Common.{◌≡◌, ℕ, ◌≤◌, Bool, true, false, cond, eqb, ltb, List, [], ◌∷◌, replicate, Some, None, Ok, Err, decimal, Option, Result, sym, refl, ap, ◌∙◌, ⊎_elim, arith}
-use Rattle.std.proofs.lemmas.Bool.{cond-true, cond-false, cases_Bool, eqb-true, eqb-false, ltb-false, le-ltb, ne_eqb}
+use Rattle.std.proofs.lemmas.Bool.Decides.{nat_tests}
+use Rattle.std.proofs.lemmas.Bool.{cond-true, cond-false, cases_Bool, eqb-true, ltb-false}
 use Rattle.sheet.specs.declared.form.Form.{Form}
 use Rattle.sheet.specs.declared.form.Form.TheVariants.{Cnf, Dnf}
 use Rattle.sheet.specs.declared.literal.Literal.{Literal}
 use Rattle.sheet_text.specs.Grammar as grammar
-use Rattle.sheet_text.specs.Machine.{start, blank, in_mode, comment_word, form_word, formed, form_of, length_word, with_length, rule_count_word, with_rules, header_end}
+use Rattle.sheet_text.specs.Machine.{start, in_mode, comment_word, form_word, with_form, length_word, with_length, rule_count_word, with_rules, header_end}
 use Rattle.sheet_text.specs.Reading.{Progress, run}
+use Rattle.sheet_text.specs.Wanted.{after, within, form_of, form_at}
 use Rattle.sheet_text.specs.Words.{letters, number, line_end, sort_word, numeral_of, Tokens, next}
 use Rattle.faults.specs.declared.sheet.SheetFault.{SheetFault}
 use Rattle.faults.specs.declared.sheet.SheetFault.TheVariants as fault
-use Rattle.sheet_text.specs.declared.reader.Mode.TheVariants as mode
-use Rattle.sheet_text.specs.declared.reader.Reader.{Reader}
-use Rattle.sheet_text.specs.declared.reader.Section.TheVariants.{Opening, Quantifiers}
+use Rattle.sheet_text.specs.declared.state.Mode.TheVariants as mode
+use Rattle.sheet_text.specs.declared.state.State.{State}
+use Rattle.sheet_text.specs.declared.state.Section.TheVariants.{Opening, Quantifiers}
 use Rattle.sheet_text.specs.declared.word.Number.{Number}
 use Rattle.sheet_text.proofs.Lining.{Line}
 use Rattle.sheet_text.proofs.Running.{progress}
 use Rattle.sheet_text.proofs.Spelled.{none_some}
 use Rattle.sheet_text.proofs.Steps.{err_ok}
 use Rattle.sheet_text.proofs.Turning.{turn, turn_back}
-use Rattle.sheet_text.proofs.WordReads.{sort_cases, sort_decimal, sort_form, form_is, plain_word, natural_back}
+use Rattle.sheet_text.proofs.WordReads.{sort_cases, sort_decimal, sort_form, form_is, plain_word, wanted_back, natural_back}
 
 -- A comment is passed over, whatever its words.
-comment_word_lem : (m : Reader) (w : List ℕ) (p : ℕ) → comment_word m (sort_word w p) ≡ m
-comment_word_lem m w p =
-    ⊎_elim (λ (s : (n : Number) × (numeral_of w ≡ Some n) × (sort_word w p ≡ number n p)). ap (comment_word m) s.2)
-    (λ (s : (numeral_of w ≡ None) × (sort_word w p ≡ letters w p)). ap (comment_word m) s.1) (sort_cases w p)
+comment_word_lem : (m : State) (w : List ℕ) (p : ℕ) → comment_word m (sort_word w p) ≡ m
+comment_word_lem m w p = grind (arith, nat_tests)
 
 pub comment_line : (ws : List (List ℕ)) (ls : List Literal) (done : List (List Literal)) (ts rest : Tokens) → Line ws ts rest → run (progress (in_mode mode.Comment start) ls done) ts ≡ run (progress start ls done) rest
 comment_line [] ls done ts rest l = turn (in_mode mode.Comment start) ls done ts rest (line_end l.0) (Ok start) l.1 refl start refl
@@ -34,18 +34,18 @@ comment_line (w ∷ ws) ls done ts rest l =
     turn m ls done ts l.1 (sort_word w l.0) (Ok (comment_word m (sort_word w l.0))) l.2 refl m (ap Ok (comment_word_lem m w l.0)) ∙ comment_line ws ls done l.1 rest l.3
 
 -- The reader after the header.
-abbrev pub headed : Form → ℕ → ℕ → Reader
-headed f n r = record { section = Quantifiers; mode = mode.LineStart; form = f; length = n; rules = r; variables = replicate 24 blank; named = 0; reports = 0; read = 0 }
+abbrev pub headed : Form → ℕ → ℕ → State
+headed f n r = record { section = Quantifiers; mode = mode.LineStart; form = f; length = n; rules = r; variables = replicate 24 None; named = 0; reports = 0; read = 0 }
 
 -- Between the words of the header.
-abbrev waiting : Form → Reader
-waiting f = record { section = Opening; mode = mode.Length; form = f; length = 0; rules = 0; variables = replicate 24 blank; named = 0; reports = 0; read = 0 }
+abbrev waiting : Form → State
+waiting f = record { section = Opening; mode = mode.Length; form = f; length = 0; rules = 0; variables = replicate 24 None; named = 0; reports = 0; read = 0 }
 
-length_word_lem : (m : Reader) (v p : ℕ) → 1 ≤ v → v ≤ 24 → length_word m (number (record { value = v; negative = false }) p) ≡ Ok (with_length m v)
-length_word_lem m v p low high = cond-false _ _ _ (ne_eqb v 0 (λ z. omega arith)) ∙ cond-false _ _ _ (le-ltb 24 v high)
+length_word_lem : (m : State) (v p : ℕ) → 1 ≤ v → v ≤ 24 → length_word m (number (record { value = v; negative = false }) p) ≡ Ok (with_length m v)
+length_word_lem m v p low high = grind (arith, nat_tests)
 
-rules_word : (m : Reader) (v p : ℕ) → v ≤ 256 → rule_count_word m (number (record { value = v; negative = false }) p) ≡ Ok (with_rules m v)
-rules_word m v p high = cond-false _ _ _ (le-ltb 256 v high)
+rules_word : (m : State) (v p : ℕ) → v ≤ 256 → rule_count_word m (number (record { value = v; negative = false }) p) ≡ Ok (with_rules m v)
+rules_word m v p high = grind (arith, nat_tests)
 
 -- The words after p are read where they are as they should be.
 pub header_forth : (f : Form) (n r : ℕ) (ls : List Literal) (done : List (List Literal)) (ts rest : Tokens) → 1 ≤ n → n ≤ 24 → r ≤ 256
@@ -54,8 +54,8 @@ header_forth f n r ls done ts rest low high few l =
     let l1 = l.3 in
     let l2 = l1.3 in
     let l3 = l2.3 in
-    turn (in_mode mode.Form start) ls done ts l.1 (letters (grammar.form_word f) l.0) (formed (in_mode mode.Form start) l.0 (form_of (grammar.form_word f))) (l.2 ∙ ap (λ w. next w l.1) (sort_form f l.0)) refl
-    (waiting f) (ap (formed (in_mode mode.Form start) l.0) (form_is f))
+    turn (in_mode mode.Form start) ls done ts l.1 (letters (grammar.form_word f) l.0) (form_word (in_mode mode.Form start) (letters (grammar.form_word f) l.0)) (l.2 ∙ ap (λ w. next w l.1) (sort_form f l.0)) refl
+    (waiting f) (ap (λ o. after (form_at l.0 o) (λ f. Ok (with_form (in_mode mode.Form start) f))) (form_is f))
     ∙ turn (waiting f) ls done l.1 l1.1 (sort_word (decimal n) l1.0) (length_word (waiting f) (sort_word (decimal n) l1.0)) l1.2 refl
     (with_length (waiting f) n) (ap (length_word (waiting f)) (sort_decimal n l1.0 (omega arith)) ∙ length_word_lem (waiting f) n l1.0 low high)
     ∙ turn (with_length (waiting f) n) ls done l1.1 l2.1 (sort_word (decimal r) l2.0) (rule_count_word (with_length (waiting f) n) (sort_word (decimal r) l2.0)) l2.2 refl
@@ -98,40 +98,41 @@ form_back (a ∷ b ∷ c ∷ []) f e =
 form_back (a ∷ b ∷ c ∷ d ∷ ds) f e = absurd (none_some f e)
 
 -- A word that the form was read from.
-form_word_back : (m u : Reader) (w : List ℕ) (p : ℕ) → form_word m (sort_word w p) ≡ Ok u → (f : Form) × (w ≡ grammar.form_word f) × (formed m p (Some f) ≡ Ok u)
+form_word_back : (m u : State) (w : List ℕ) (p : ℕ) → form_word m (sort_word w p) ≡ Ok u → (f : Form) × (w ≡ grammar.form_word f) × (with_form m f ≡ u)
 form_word_back m u w p e =
     ⊎_elim (λ (s : (n : Number) × (numeral_of w ≡ Some n) × (sort_word w p ≡ number n p)). absurd (err_ok (fault.Word p) u (sym (ap (form_word m) s.2) ∙ e)))
     (λ (s : (numeral_of w ≡ None) × (sort_word w p ≡ letters w p)). by (form_of w) refl (sym (ap (form_word m) s.1) ∙ e)) (sort_cases w p)
   where
-    by : (o : Option Form) → form_of w ≡ o → formed m p (form_of w) ≡ Ok u → (f : Form) × (w ≡ grammar.form_word f) × (formed m p (Some f) ≡ Ok u)
-    by (Some f) is q = (f, form_back w f is, sym (ap (formed m p) is) ∙ q)
-    by None is q = absurd (err_ok (fault.Word p) u (sym (ap (formed m p) is) ∙ q))
+    by : (o : Option Form) → form_of w ≡ o → after (form_at p (form_of w)) (λ f. Ok (with_form m f)) ≡ Ok u → (f : Form) × (w ≡ grammar.form_word f) × (with_form m f ≡ u)
+    by (Some f) is q =
+        let r : ◌≡◌ {A = Result State SheetFault} (Ok (with_form m f)) (Ok u) = sym (ap (λ o. after (form_at p o) (λ f. Ok (with_form m f))) is) ∙ q in
+        (f, form_back w f is, (let same : with_form m f ≡ u = cc r in same))
+    by None is q = absurd (err_ok (fault.Word p) u (sym (ap (λ o. after (form_at p o) (λ f. Ok (with_form m f))) is) ∙ q))
+
+-- A number that was within limits, and what came of it.
+within_back : (l h p v : ℕ) (go : ℕ → State) (u : State) → after (within l h p v) (λ v. Ok (go v)) ≡ Ok u → (l ≤ v) × (v ≤ h) × (go v ≡ u)
+within_back l h p v go u e =
+    ⊎_elim (λ (t : ltb v l ≡ true). absurd (err_ok (fault.Limit p) u (sym (ap next_is (cond-true _ _ _ t)) ∙ e)))
+    (λ (n : ltb v l ≡ false). ⊎_elim
+    (λ (t : ltb h v ≡ true). absurd (err_ok (fault.Limit p) u (sym (ap next_is (cond-false _ _ _ n ∙ cond-true _ _ _ t)) ∙ e)))
+    (λ (k : ltb h v ≡ false).
+    let q : ◌≡◌ {A = Result State SheetFault} (Ok (go v)) (Ok u) = sym (ap next_is (cond-false _ _ _ n ∙ cond-false _ _ _ k)) ∙ e in
+    (ltb-false v l n, ltb-false h v k, (let same : go v ≡ u = cc q in same)))
+    (cases_Bool (ltb h v)))
+    (cases_Bool (ltb v l))
+  where
+    next_is : Result ℕ SheetFault → Result State SheetFault
+    next_is o = after o (λ v. Ok (go v))
 
 -- The words that a header's numbers were read from.
-length_back : (m u : Reader) (v p : ℕ) → length_word m (number (record { value = v; negative = false }) p) ≡ Ok u → (1 ≤ v) × (v ≤ 24) × (with_length m v ≡ u)
-length_back m u v p e =
-    ⊎_elim (λ (t : eqb v 0 ≡ true). absurd (err_ok (fault.Limit p) u (sym (cond-true (eqb v 0) _ _ t) ∙ e)))
-    (λ (n : eqb v 0 ≡ false). let rest = sym (cond-false (eqb v 0) (Err (fault.Limit p)) (cond (ltb 24 v) (Err (fault.Limit p)) (Ok (with_length m v))) n) ∙ e in ⊎_elim
-    (λ (t : ltb 24 v ≡ true). absurd (err_ok (fault.Limit p) u (sym (cond-true (ltb 24 v) (Err (fault.Limit p)) (Ok (with_length m v)) t) ∙ rest)))
-    (λ (k : ltb 24 v ≡ false).
-    let q : ◌≡◌ {A = Result Reader SheetFault} (Ok (with_length m v)) (Ok u) = sym (cond-false (ltb 24 v) (Err (fault.Limit p)) (Ok (with_length m v)) k) ∙ rest in
-    let some : v ≡ 0 → ⊥ = eqb-false v 0 n in
-    (omega arith, ltb-false 24 v k, (let same : with_length m v ≡ u = cc q in same)))
-    (cases_Bool (ltb 24 v)))
-    (cases_Bool (eqb v 0))
+length_back : (m u : State) (v p : ℕ) → length_word m (number (record { value = v; negative = false }) p) ≡ Ok u → (1 ≤ v) × (v ≤ 24) × (with_length m v ≡ u)
+length_back m u v p e = within_back 1 24 p v (with_length m) u e
 
-rules_back : (m u : Reader) (v p : ℕ) → rule_count_word m (number (record { value = v; negative = false }) p) ≡ Ok u → (v ≤ 256) × (with_rules m v ≡ u)
-rules_back m u v p e =
-    ⊎_elim (λ (t : ltb 256 v ≡ true). absurd (err_ok (fault.Limit p) u (sym (cond-true (ltb 256 v) (Err (fault.Limit p)) (Ok (with_rules m v)) t) ∙ e)))
-    (λ (k : ltb 256 v ≡ false).
-    let q : ◌≡◌ {A = Result Reader SheetFault} (Ok (with_rules m v)) (Ok u) = sym (cond-false (ltb 256 v) (Err (fault.Limit p)) (Ok (with_rules m v)) k) ∙ e in
-    (ltb-false 256 v k, (let same : with_rules m v ≡ u = cc q in same)))
-    (cases_Bool (ltb 256 v))
+rules_back : (m u : State) (v p : ℕ) → rule_count_word m (number (record { value = v; negative = false }) p) ≡ Ok u → (v ≤ 256) × (with_rules m v ≡ u)
+rules_back m u v p e = grind (arith, nat_tests)
 
-end_refuses : (m u : Reader) (w : List ℕ) (p : ℕ) → header_end m (sort_word w p) ≡ Ok u → ⊥
-end_refuses m u w p e =
-    ⊎_elim (λ (s : (n : Number) × (numeral_of w ≡ Some n) × (sort_word w p ≡ number n p)). err_ok (fault.Word p) u (sym (ap (header_end m) s.2) ∙ e))
-    (λ (s : (numeral_of w ≡ None) × (sort_word w p ≡ letters w p)). err_ok (fault.Word p) u (sym (ap (header_end m) s.1) ∙ e)) (sort_cases w p)
+end_refuses : (m u : State) (w : List ℕ) (p : ℕ) → header_end m (sort_word w p) ≡ Ok u → ⊥
+end_refuses m u w p e = grind (arith, nat_tests)
 
 module _ (ls : List Literal) (done : List (List Literal)) (rest : Tokens) (z : Progress) where
   -- After the number of rules the line is over.
@@ -141,7 +142,7 @@ module _ (ls : List Literal) (done : List (List Literal)) (rest : Tokens) (z : P
       let m = with_rules (with_length (waiting f) n) r in
       let b = turn_back m ls done ts rest (line_end l.0) (Ok (headed f n r)) l.1 refl z e in
       let same : headed f n r ≡ b.0 = let q = b.1 in cc q in
-      (refl, ap (λ (u : Reader). run (progress u ls done) rest) same ∙ b.2)
+      (refl, ap (λ (u : State). run (progress u ls done) rest) same ∙ b.2)
   end_back f n r (w ∷ ws) ts l e =
       let m = with_rules (with_length (waiting f) n) r in
       let b = turn_back m ls done ts l.1 (sort_word w l.0) (header_end m (sort_word w l.0)) l.2 refl z e in
@@ -155,9 +156,10 @@ module _ (ls : List Literal) (done : List (List Literal)) (rest : Tokens) (z : P
   rule_count_back f n (w ∷ ws) ts l e =
       let m = with_length (waiting f) n in
       let b = turn_back m ls done ts l.1 (sort_word w l.0) (rule_count_word m (sort_word w l.0)) l.2 refl z e in
-      let v = natural_back (sort_word w l.0) _ b.0 b.1 in
+      let came = wanted_back _ _ b.0 b.1 in
+      let v = natural_back (sort_word w l.0) _ came.0 came.1 in
       let took = rules_back m b.0 v.0 v.1 (sym (ap (rule_count_word m) v.2) ∙ b.1) in
-      let over = end_back f n v.0 ws l.1 l.3 (ap (λ (u : Reader). run (progress u ls done) l.1) took.1 ∙ b.2) in
+      let over = end_back f n v.0 ws l.1 l.3 (ap (λ (u : State). run (progress u ls done) l.1) took.1 ∙ b.2) in
       (v.0, took.0, (λ i. plain_word w l.0 v.0 v.1 v.2 i ∷ over.0 i), over.1)
 
   positions_back : (f : Form) (ws : List (List ℕ)) (ts : Tokens) → Line ws ts rest → run (progress (waiting f) ls done) ts ≡ Ok z
@@ -168,9 +170,10 @@ module _ (ls : List Literal) (done : List (List Literal)) (rest : Tokens) (z : P
   positions_back f (w ∷ ws) ts l e =
       let m = waiting f in
       let b = turn_back m ls done ts l.1 (sort_word w l.0) (length_word m (sort_word w l.0)) l.2 refl z e in
-      let v = natural_back (sort_word w l.0) _ b.0 b.1 in
+      let came = wanted_back _ _ b.0 b.1 in
+      let v = natural_back (sort_word w l.0) _ came.0 came.1 in
       let took = length_back m b.0 v.0 v.1 (sym (ap (length_word m) v.2) ∙ b.1) in
-      let after = rule_count_back f v.0 ws l.1 l.3 (ap (λ (u : Reader). run (progress u ls done) l.1) took.2 ∙ b.2) in
+      let after = rule_count_back f v.0 ws l.1 l.3 (ap (λ (u : State). run (progress u ls done) l.1) took.2 ∙ b.2) in
       (v.0, after.0, took.0, took.1, after.1, (λ i. plain_word w l.0 v.0 v.1 v.2 i ∷ after.2 i), after.3)
 
   pub header_back : (ws : List (List ℕ)) (ts : Tokens) → Line ws ts rest → run (progress (in_mode mode.Form start) ls done) ts ≡ Ok z → HeaderRead ws ls done rest z
@@ -181,8 +184,8 @@ module _ (ls : List Literal) (done : List (List Literal)) (rest : Tokens) (z : P
       let m = in_mode mode.Form start in
       let b = turn_back m ls done ts l.1 (sort_word w l.0) (form_word m (sort_word w l.0)) l.2 refl z e in
       let f = form_word_back m b.0 w l.0 b.1 in
-      let same : waiting f.0 ≡ b.0 = let q = f.2 in cc q in
-      let after = positions_back f.0 ws l.1 l.3 (ap (λ (u : Reader). run (progress u ls done) l.1) same ∙ b.2) in
+      let same : waiting f.0 ≡ b.0 = f.2 in
+      let after = positions_back f.0 ws l.1 l.3 (ap (λ (u : State). run (progress u ls done) l.1) same ∙ b.2) in
       record {
         form = f.0;
         positions = after.0;

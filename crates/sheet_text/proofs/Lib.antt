@@ -4,6 +4,7 @@ pub mod Opened
 pub mod Given
 pub mod Lining
 pub mod Running
+pub mod Drafting
 pub mod Spelled
 pub mod Naming
 pub mod WordReads

@@ -1,9 +1,9 @@
 -- The words of a text against its lines.
-use Rattle.std.proofs.Common.{◌≡◌, ℕ, ◌+◌, ◌<◌, ◌≤◌, true, false, cond, eqb, leb, ◌⊎◌, List, [], ◌∷◌, ◌++◌, map, sym, refl, ap, ◌∙◌, subst, inl, inr, ⊎_elim, arith}
+use Rattle.std.proofs.lemmas.Bool.Decides.{nat_tests}
+use Rattle.std.proofs.Common.{All, ◌≡◌, ℕ, ◌+◌, ◌<◌, ◌≤◌, true, false, cond, eqb, leb, ◌⊎◌, List, [], ◌∷◌, ◌++◌, map, sym, refl, ap, ◌∙◌, subst, inl, inr, ⊎_elim, arith}
 use Rattle.std.proofs.lemmas.List.{append_assoc, append-nil}
-use Rattle.std.proofs.ByRecursion.{All-push}
-use Rattle.std.proofs.lemmas.Bool.{cond-true, cond-false, cases_Bool, eqb-true, eqb-false, leb-true, leb-false, and_parts, and_cases, eq-eqb, ne_eqb}
-use Rattle.std.specs.List.{AllByRecursion}
+use Rattle.std.proofs.lemmas.Bool.{cond-true, cond-false, cases_Bool, eqb-true, eqb-false, leb-true, and_parts, eq-eqb, ne_eqb}
+use Rattle.std.proofs.lemmas.List.Elements.{All-nil, All-cons, All-head, All-tail, All-push, All-weaker}
 use Rattle.sheet_text.specs.Grammar.{Allowed, onto, pieces, non_empty, words_of}
 use Rattle.sheet_text.specs.Words.{line_end, sort_word, Tokens, stop, bad, next, Open, gap, within, closed, more, printable, cut, ended, tokens}
 use Rattle.sheet_text.proofs.Cutting.{on_space, on_line, on_printable, on_bad}
@@ -56,18 +56,21 @@ first_piece s (b ∷ t) = elim (eqb b s) as (λ c. (l : List ℕ) × (ls : List 
     first_onto [] = (b ∷ [], [], refl)
     first_onto (p ∷ ps) = (b ∷ p, ps, refl)
 
+-- A byte other than s.
+abbrev Other : ℕ → ℕ → Type 0
+Other s b = eqb b s ≡ false
+
 -- Bytes other than s, and then s, are a piece.
-pub pieces-cut : (s : ℕ) (w l : List ℕ) → AllByRecursion (λ b. eqb b s ≡ false) w → pieces s (w ++ s ∷ l) ≡ w ∷ pieces s l
+pub pieces-cut : (s : ℕ) (w l : List ℕ) → All (λ b. eqb b s ≡ false) w → pieces s (w ++ s ∷ l) ≡ w ∷ pieces s l
 pieces-cut s [] l h = cond-true _ _ _ (eq-eqb s s refl)
-pieces-cut s (b ∷ w) l h = cond-false _ _ _ h.0 ∙ ap (onto b) (pieces-cut s w l h.1)
+pieces-cut s (b ∷ w) l h = cond-false _ _ _ (All-head (Other s) b w h) ∙ ap (onto b) (pieces-cut s w l (All-tail (Other s) b w h))
 
-pub pieces_one : (s : ℕ) (w : List ℕ) → AllByRecursion (λ b. eqb b s ≡ false) w → pieces s w ≡ w ∷ []
+pub pieces_one : (s : ℕ) (w : List ℕ) → All (λ b. eqb b s ≡ false) w → pieces s w ≡ w ∷ []
 pieces_one s [] h = refl
-pieces_one s (b ∷ w) h = cond-false _ _ _ h.0 ∙ ap (onto b) (pieces_one s w h.1)
+pieces_one s (b ∷ w) h = cond-false _ _ _ (All-head (Other s) b w h) ∙ ap (onto b) (pieces_one s w (All-tail (Other s) b w h))
 
-no_space : (w : List ℕ) → AllByRecursion Inner w → AllByRecursion (λ b. eqb b 32 ≡ false) w
-no_space [] h = tt
-no_space (b ∷ w) h = (h.0.0, no_space w h.1)
+no_space : (w : List ℕ) → All Inner w → All (λ b. eqb b 32 ≡ false) w
+no_space w h = All-weaker Inner (Other 32) (λ b i. i.0) w h
 
 -- The open word is the first of its line.
 closed-line : (o : Open) (ps : List (List ℕ)) (ts rest : Tokens) → Sized o → Line (non_empty ps) ts rest → Line (non_empty (begun o ∷ ps)) (closed o ts) rest
@@ -76,14 +79,14 @@ closed-line (within q []) ps ts rest h l = absurd h
 closed-line (within q (b ∷ bs)) ps ts rest h l = (q, ts, refl, l)
 
 -- A line that the open word ends.
-last_word : (o : Open) (p : ℕ) (rest : Tokens) → Sized o → AllByRecursion Inner (begun o) → Line (words_of (begun o ++ [])) (closed o (next (line_end p) rest)) rest
+last_word : (o : Open) (p : ℕ) (rest : Tokens) → Sized o → All Inner (begun o) → Line (words_of (begun o ++ [])) (closed o (next (line_end p) rest)) rest
 last_word o p rest h i =
     subst (λ (ps : List (List ℕ)). Line (non_empty ps) (closed o (next (line_end p) rest)) rest)
     (sym (ap (pieces 32) (append-nil (begun o)) ∙ pieces_one 32 (begun o) (no_space (begun o) i)))
     (closed-line o [] (next (line_end p) rest) rest h (p, refl))
 
 -- A line that goes on after the open word and a space.
-word_and_more : (o : Open) (l : List ℕ) (ts rest : Tokens) → Sized o → AllByRecursion Inner (begun o) → Line (words_of l) ts rest → Line (words_of (begun o ++ 32 ∷ l)) (closed o ts) rest
+word_and_more : (o : Open) (l : List ℕ) (ts rest : Tokens) → Sized o → All Inner (begun o) → Line (words_of l) ts rest → Line (words_of (begun o ++ 32 ∷ l)) (closed o ts) rest
 word_and_more o l ts rest h i line =
     subst (λ (ps : List (List ℕ)). Line (non_empty ps) (closed o ts) rest) (sym (pieces-cut 32 (begun o) l (no_space (begun o) i)))
     (closed-line o (pieces 32 l) ts rest h line)
@@ -102,16 +105,17 @@ unfolding cut
 cut_none q = refl
 
 -- The tokens of a text whose bytes are all allowed are those of its lines.
-pub lined : (o : Open) (p : ℕ) (t : List ℕ) → AllByRecursion Allowed t → Sized o → AllByRecursion Inner (begun o) → Lined (map words_of (before (begun o) (pieces 10 t))) (cut o p (ended t))
+pub lined : (o : Open) (p : ℕ) (t : List ℕ) → All Allowed t → Sized o → All Inner (begun o) → Lined (map words_of (before (begun o) (pieces 10 t))) (cut o p (ended t))
 lined o p [] a h i =
     subst (Lined (map words_of ((begun o ++ []) ∷ []))) (sym (on_line o p 10 [] refl ∙ ap (λ ts. closed o (next (line_end p) ts)) (cut_none (p + 1))))
     (stop, last_word o p stop h i, refl)
 lined o p (b ∷ t) a h i =
+    let later = All-tail Allowed b t a in
     let rest = cut gap (p + 1) (ended t) in
     let piece = first_piece 10 t in
     let l = piece.0 in
     let ls = piece.1 in
-    let after : Lined (map words_of (l ∷ ls)) rest = subst (λ (ps : List (List ℕ)). Lined (map words_of (before [] ps)) rest) piece.2 (lined gap (p + 1) t a.1 tt tt) in
+    let after : Lined (map words_of (l ∷ ls)) rest = subst (λ (ps : List (List ℕ)). Lined (map words_of (before [] ps)) rest) piece.2 (lined gap (p + 1) t later tt (All-nil Inner)) in
     ⊎_elim
     (λ (s : eqb b 32 ≡ true).
     let is = eqb-true b 32 s in
@@ -125,9 +129,9 @@ lined o p (b ∷ t) a h i =
     subst (λ ts. Lined (map words_of (before (begun o) (pieces 10 (b ∷ t)))) ts) (sym (on_line o p b (ended t) (eqb-true b 10 n)))
     (subst (λ (ps : List (List ℕ)). Lined (map words_of (before (begun o) ps)) (closed o (next (line_end p) rest))) (sym pieces-is) (rest, last_word o p rest h i, after)))
     (λ (nn : eqb b 10 ≡ false).
-    let ok : (32 ≤ b) × (b ≤ 126) = ⊎_elim (λ z. absurd (eqb-false b 10 nn z)) (λ k. k) a.0 in
+    let ok : (32 ≤ b) × (b ≤ 126) = ⊎_elim (λ z. absurd (eqb-false b 10 nn z)) (λ k. k) (All-head Allowed b t a) in
     let go : Lined (map words_of (before (begun (more o p b)) (pieces 10 t))) (cut (more o p b) (p + 1) (ended t)) =
-    lined (more o p b) (p + 1) t a.1 (more_sized o p b) (subst (AllByRecursion Inner) (sym (more-begun o p b)) (All-push Inner (begun o) b i (ns, nn))) in
+    lined (more o p b) (p + 1) t later (more_sized o p b) (subst (All Inner) (sym (more-begun o p b)) (All-push Inner (begun o) b i (ns, nn))) in
     subst (λ ts. Lined (map words_of (before (begun o) (pieces 10 (b ∷ t)))) ts) (sym (on_printable o p b (ended t) (eqb-false b 32 ns) (eqb-false b 10 nn) ok.0 ok.1))
     (subst (λ (ps : List (List ℕ)). Lined (map words_of ps) (cut (more o p b) (p + 1) (ended t)))
     (ap (λ acc. before acc (pieces 10 t)) (more-begun o p b) ∙ sym (before_onto (begun o) b (pieces 10 t)) ∙ ap (before (begun o)) (sym (cond-false (eqb b 10) ([] ∷ pieces 10 t) (onto b (pieces 10 t)) nn))) go))
@@ -139,33 +143,33 @@ closed_clean gap ts c = c
 closed_clean (within q acc) ts c = c
 
 -- A text whose words are clean has no byte that is not allowed.
-pub clean_allowed : (o : Open) (p : ℕ) (t : List ℕ) → Clean (cut o p (ended t)) → AllByRecursion Allowed t
-clean_allowed o p [] c = tt
+pub clean_allowed : (o : Open) (p : ℕ) (t : List ℕ) → Clean (cut o p (ended t)) → All Allowed t
+clean_allowed o p [] c = All-nil Allowed
 clean_allowed o p (b ∷ t) c =
     ⊎_elim
     (λ (s : eqb b 32 ≡ true).
     let is = eqb-true b 32 s in
-    (inr (omega arith, omega arith), clean_allowed gap (p + 1) t (closed_clean o _ (subst Clean (on_space o p b (ended t) is) c))))
+    All-cons Allowed b t (inr (omega arith, omega arith)) (clean_allowed gap (p + 1) t (closed_clean o _ (subst Clean (on_space o p b (ended t) is) c))))
     (λ (ns : eqb b 32 ≡ false). ⊎_elim
     (λ (n : eqb b 10 ≡ true).
     let is = eqb-true b 10 n in
-    (inl is, clean_allowed gap (p + 1) t (closed_clean o (next (line_end p) (cut gap (p + 1) (ended t))) (subst Clean (on_line o p b (ended t) is) c))))
+    All-cons Allowed b t (inl is) (clean_allowed gap (p + 1) t (closed_clean o (next (line_end p) (cut gap (p + 1) (ended t))) (subst Clean (on_line o p b (ended t) is) c))))
     (λ (nn : eqb b 10 ≡ false). ⊎_elim
     (λ (k : printable b ≡ true).
     let both = and_parts (leb 32 b) (leb b 126) k in
     let low = leb-true 32 b both.0 in
     let high = leb-true b 126 both.1 in
-    (inr (low, high), clean_allowed (more o p b) (p + 1) t (subst Clean (on_printable o p b (ended t) (eqb-false b 32 ns) (eqb-false b 10 nn) low high) c)))
+    All-cons Allowed b t (inr (low, high)) (clean_allowed (more o p b) (p + 1) t (subst Clean (on_printable o p b (ended t) (eqb-false b 32 ns) (eqb-false b 10 nn) low high) c)))
     (λ (k : printable b ≡ false). absurd (subst Clean (on_bad o p b (ended t) (eqb-false b 32 ns) (eqb-false b 10 nn) (outside k)) c))
     (cases_Bool (printable b)))
     (cases_Bool (eqb b 10)))
     (cases_Bool (eqb b 32))
   where
     outside : printable b ≡ false → (b < 32) ⊎ (126 < b)
-    outside k = ⊎_elim (λ e. inl (leb-false 32 b e)) (λ e. inr (leb-false b 126 e)) (and_cases (leb 32 b) (leb b 126) k)
+    outside k = grind (arith, nat_tests)
 
-pub lined_text : (t : List ℕ) → AllByRecursion Allowed t → Lined (map words_of (pieces 10 t)) (tokens t)
+pub lined_text : (t : List ℕ) → All Allowed t → Lined (map words_of (pieces 10 t)) (tokens t)
 lined_text t a =
     let piece = first_piece 10 t in
     subst (λ (ps : List (List ℕ)). Lined (map words_of ps) (tokens t)) (sym piece.2)
-    (subst (λ (ps : List (List ℕ)). Lined (map words_of (before [] ps)) (tokens t)) piece.2 (lined gap 0 t a tt tt))
+    (subst (λ (ps : List (List ℕ)). Lined (map words_of (before [] ps)) (tokens t)) piece.2 (lined gap 0 t a tt (All-nil Inner)))

@@ -1,12 +1,12 @@
 -- What a reader knows of the variables that quantifier lines have named.
-use Rattle.std.proofs.Common.{◌≡◌, ℕ, zero, suc, ◌+◌, ◌-◌, ◌*◌, ◌/◌, ◌^◌, ◌<◌, ◌≤◌, true, false, cond, eqb, List, [], ◌∷◌, ◌++◌, map, length, get_or, set, sym, refl, ap, ◌∙◌, subst, ⊎_elim, one-mul, pow-suc, add-one, arith}
+use Rattle.std.proofs.lemmas.Bool.Decides.{nat_tests}
+use Rattle.std.proofs.Common.{All, ◌≡◌, ℕ, zero, suc, ◌+◌, ◌-◌, ◌*◌, ◌/◌, ◌^◌, ◌<◌, ◌≤◌, true, false, cond, eqb, List, [], ◌∷◌, ◌++◌, map, length, get_or, set, Some, None, Option, sym, refl, ap, ◌∙◌, subst, ⊎_elim, one-mul, pow-suc, add-one, arith}
 use lib.Bits.{bit_or, or_shifted_r}
 use lib.Count.{ones}
 use Rattle.std.proofs.lemmas.Nat.{div-mul-add, mod-mul-add}
-use Rattle.std.proofs.ByRecursion.{All-push}
 use Rattle.std.proofs.lemmas.List.{length_push, map_push, get_or-set_same, get_or-set_other}
 use Rattle.std.proofs.lemmas.Bool.{cond-true, cond-false, cases_eq, cases_Bool, eq-eqb, ne_eqb, eqb-false}
-use Rattle.std.specs.List.{AllByRecursion}
+use Rattle.std.proofs.lemmas.List.Elements.{All-push}
 use Rattle.prefix.proofs.Masks.{bits_push, bits_same, bit_past, bit_mod_in}
 use Rattle.prefix.proofs.Positions.{count-whole}
 use Rattle.prefix.specs.Bits.{odd, bit, bits}
@@ -16,8 +16,8 @@ use Rattle.prefix.specs.declared.kind.Kind.{Kind}
 use Rattle.prefix.specs.declared.kind.Kind.TheVariants.{Report, Reply}
 use Rattle.sheet_text.specs.Grammar.{Variable, variable, one_more, position_in, Once, Ranges}
 use Rattle.sheet_text.specs.Keeping.{position_at}
-use Rattle.sheet_text.specs.Machine.{blank, reports_with, naming}
-use Rattle.sheet_text.specs.declared.reader.Reader.{Reader}
+use Rattle.sheet_text.specs.Machine.{position_of, reports_with, naming}
+use Rattle.sheet_text.specs.declared.state.State.{State}
 use Rattle.sheet_text.specs.declared.variable.Variable as Record
 
 one_more_zero : (k : ℕ) → one_more k ≡ 0 → k ≡ 0
@@ -35,7 +35,7 @@ absent_parts q qs v e =
     one_not a b = omega arith
 
 pub position_after : (q : Variable) (qs : List Variable) (v : ℕ) → (v ≡ q.name → ⊥) → position_in (q ∷ qs) v ≡ one_more (position_in qs v)
-position_after q qs v ne = cond-false (eqb v q.name) 1 (one_more (position_in qs v)) (ne_eqb v q.name ne)
+position_after q qs v ne = grind (arith, nat_tests)
 
 -- Positions in the order of naming, once a variable more is named.
 position_here : (qs : List Variable) (v : ℕ) (k : Kind) → position_in qs v ≡ 0 → position_in (qs ++ variable k v ∷ []) v ≡ suc (length qs)
@@ -100,45 +100,49 @@ mask_more n m d Report h e =
     subst (λ (j : ℕ). bit_or m (2 ^ j) < 2 ^ suc n) (sym same) (omega (arith, set_is n m h, pow-suc 2 n, one-mul (2 ^ n)))
 mask_more n m d Reply h e = omega (arith, pow-suc 2 n)
 
+-- The variable's number is from 1 to n.
+abbrev pub Ranged : ℕ → Variable → Type 0
+Ranged n q = Ranges n q.name
+
 -- What a reader knows: the positions, kinds and number of the variables named, all different and within the header's number.
-pub record Knows (m : Reader) (qs : List Variable) : Type 0 where
+pub record Knows (m : State) (qs : List Variable) : Type 0 where
   pub positions : (i : ℕ) → position_at m i ≡ position_in qs (suc i)
   pub count : m.named ≡ length qs
   pub kinds : kinds_of (length qs) m.reports ≡ map (λ q. q.kind) qs
   pub mask : m.reports < 2 ^ length qs
-  pub range : AllByRecursion (λ q. Ranges m.length q.name) qs
+  pub range : All (Ranged m.length) qs
   pub once : Once qs
 
-pub knows_none : (m : Reader) → m.named ≡ 0 → m.reports ≡ 0 → ((i : ℕ) → position_at m i ≡ 0) → Knows m []
-knows_none m e r p = record { positions = p; count = e; kinds = refl; mask = omega arith; range = tt; once = tt }
+pub knows_none : (m : State) → m.named ≡ 0 → m.reports ≡ 0 → ((i : ℕ) → position_at m i ≡ 0) → Knows m []
+knows_none m e r p = grind (arith, nat_tests)
 
-pub knows_more : (m : Reader) (qs : List Variable) (k : Kind) (v : ℕ) → Knows m qs → length m.variables ≡ 24 → m.length ≤ 24
+pub knows_more : (m : State) (qs : List Variable) (k : Kind) (v : ℕ) → Knows m qs → length m.variables ≡ 24 → m.length ≤ 24
     → Ranges m.length v → position_at m (v - 1) ≡ 0 → Knows (naming m k v) (qs ++ variable k v ∷ [])
 knows_more m qs k v h all short range free =
     let i = v - 1 in
     let at : suc i ≡ v = omega (arith, range.0) in
     let inside : i < length m.variables = omega (arith, range.1) in
-    let x : Record.Variable = record { kind = k; position = m.named + 1 } in
+    let x : Option Record.Variable = Some (record { kind = k; position = m.named + 1 }) in
     let absent : position_in qs v ≡ 0 = ap (position_in qs) (sym at) ∙ sym (h.positions i) ∙ free in
     let long : length (qs ++ variable k v ∷ []) ≡ suc (length qs) = length_push qs (variable k v) ∙ add-one (length qs) in
     record {
       positions = λ j. ⊎_elim
           (λ (same : j ≡ i).
-          ap (λ (y : Record.Variable). y.position) (ap (λ (j : ℕ). get_or (set m.variables i x) j blank) same ∙ get_or-set_same m.variables i x blank inside)
+          ap position_of (ap (λ (j : ℕ). get_or (set m.variables i x) j None) same ∙ get_or-set_same m.variables i x None inside)
           ∙ (let e : m.named + 1 ≡ suc (length qs) = omega (arith, h.count) in e) ∙ sym (ap (λ (y : ℕ). position_in (qs ++ variable k v ∷ []) y) (ap suc same ∙ at) ∙ position_here qs v k absent))
           (λ (ne : j ≡ i → ⊥).
-          ap (λ (y : Record.Variable). y.position) (get_or-set_other m.variables i j x blank ne) ∙ h.positions j ∙ sym (position_else qs v (suc j) k (λ z. omega (arith, ne (omega arith)))))
+          ap position_of (get_or-set_other m.variables i j x None ne) ∙ h.positions j ∙ sym (position_else qs v (suc j) k (λ z. omega (arith, ne (omega arith)))))
           (cases_eq j i);
       count = omega (arith, h.count, long);
       kinds = ap (λ (n : ℕ). kinds_of n (reports_with m.reports k (m.named + 1))) long ∙ kinds-more (length qs) m.reports m.named k h.mask h.count
           ∙ ap (λ ks. ks ++ k ∷ []) h.kinds ∙ sym (map_push (λ q. q.kind) qs (variable k v));
       mask = subst (λ (n : ℕ). reports_with m.reports k (m.named + 1) < 2 ^ n) (sym long) (mask_more (length qs) m.reports m.named k h.mask h.count);
-      range = All-push (λ q. Ranges m.length q.name) qs (variable k v) h.range range;
+      range = All-push (Ranged m.length) qs (variable k v) h.range range;
       once = once_push qs v k h.once absent;
     }
 
 -- The reports so far, as the mask counts them.
-pub knows_reports : (m : Reader) (qs : List Variable) → Knows m qs → ones m.reports ≡ report_count (map (λ q. q.kind) qs)
+pub knows_reports : (m : State) (qs : List Variable) → Knows m qs → ones m.reports ≡ report_count (map (λ q. q.kind) qs)
 knows_reports m qs h = sym (count-whole (length qs) m.reports h.mask) ∙ ap report_count h.kinds
 
 -- What stands in no order stands in no front of it.

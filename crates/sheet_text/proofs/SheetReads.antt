@@ -1,94 +1,100 @@
 -- How the quantifier lines of a text are read, with the rules after them.
-use Rattle.std.proofs.Common.{◌≡◌, ℕ, ◌+◌, ◌≤◌, false, List, [], ◌∷◌, ◌++◌, map, length, Some, None, Ok, sym, refl, ap, ◌∙◌, subst, ⊎_elim, arith}
+use Rattle.std.proofs.lemmas.Bool.Decides.{nat_tests}
+use Rattle.std.proofs.Common.{All, ◌≡◌, ℕ, ◌+◌, ◌≤◌, false, List, [], ◌∷◌, ◌++◌, map, length, Some, None, Ok, sym, refl, ap, ◌∙◌, subst, ⊎_elim, arith}
 use Rattle.std.proofs.lemmas.List.{append_assoc, append-nil}
-use Rattle.std.specs.List.{AllByRecursion}
+use Rattle.std.proofs.lemmas.List.Elements.{All-nil, All-cons, All-head, All-tail}
 use Rattle.prefix.specs.Kinds.{report_count}
 use Rattle.prefix.specs.declared.kind.Kind.{Kind}
 use Rattle.sheet.specs.Literals.{Distinct}
 use Rattle.sheet_text.specs.Grammar.{non_empty, Variable, variable, Quantifier, kind_word, quantifier_line, Signed, rule_line, order, Once, placed, Ranges}
 use Rattle.sheet_text.specs.Keeping.{Sound}
-use Rattle.sheet_text.specs.Machine.{in_mode, nothing, step, opened, open_in}
+use Rattle.sheet_text.specs.Machine.{in_mode, nothing, step}
 use Rattle.sheet_text.specs.Reading.{Progress, run}
 use Rattle.sheet_text.specs.Words.{letters, number, sort_word, numeral_of, Tokens, next}
-use Rattle.sheet_text.specs.declared.reader.Mode.TheVariants as mode
-use Rattle.sheet_text.specs.declared.reader.Reader.{Reader}
-use Rattle.sheet_text.specs.declared.reader.Section.{Section}
-use Rattle.sheet_text.specs.declared.reader.Section.TheVariants.{Opening, Quantifiers}
+use Rattle.sheet_text.specs.declared.state.Mode.TheVariants as mode
+use Rattle.sheet_text.specs.declared.state.State.{State}
+use Rattle.sheet_text.specs.declared.state.Section.{Section}
+use Rattle.sheet_text.specs.declared.state.Section.TheVariants.{Opening, Quantifiers}
 use Rattle.sheet_text.specs.declared.word.Number.{Number}
 use Rattle.sheet_text.proofs.Lining.{Line, Lined}
 use Rattle.sheet_text.proofs.LineReads.{heads, tails, nil_cons, blank-line, RulesOver, rules_forth, RulesRead, rules_from, rules_back, letters-step, letters_quantify, sound_rule, sound_over, knows_rule, knows_over}
-use Rattle.sheet_text.proofs.Naming.{Knows, once_front}
-use Rattle.sheet_text.proofs.RuleReads.{ruling, over_rule, rule_back, open_back}
+use Rattle.sheet_text.proofs.Naming.{Ranged, Knows, once_front}
+use Rattle.sheet_text.proofs.RuleReads.{Known, ruling, over_rule, rule_back, open_back}
 use Rattle.sheet_text.proofs.Running.{progress, run-stop}
-use Rattle.sheet_text.proofs.Turning.{step_in_lem, turn}
+use Rattle.sheet_text.proofs.Turning.{turn}
 use Rattle.sheet_text.proofs.VariableReads.{kinds_in, count-kinds, LineRead, quiet_sound, variables_forth, variables_back}
-use Rattle.sheet_text.proofs.WordReads.{sort_cases, sort_kind, first_kind}
+use Rattle.sheet_text.proofs.WordReads.{sort_cases, sort_kind}
 
 not_opening_too : {s : Section} → s ≡ Quantifiers → s ≡ Opening → ⊥
-not_opening_too e f = let z : ◌≡◌ {A = ℕ} 0 1 = (let q : Quantifiers ≡ Opening = sym e ∙ f in cc q) in omega arith
+not_opening_too e f = cc (e, f)
 
 -- The first word of a quantifier line opens it.
-kind-step : (m : Reader) (k : Kind) (p : ℕ) → m.mode ≡ mode.LineStart → m.section ≡ Quantifiers → step m (letters (kind_word k) p) ≡ nothing (Ok (in_mode (mode.Variables k false) m))
-kind-step m k p at section =
-    step_in_lem m mode.LineStart (letters (kind_word k) p) at
-    ∙ (λ i. opened (open_in (section i) m (first_kind k i) p) (letters (kind_word k) p))
+kind-step : (m : State) (k : Kind) (p : ℕ) → m.mode ≡ mode.LineStart → m.section ≡ Quantifiers → step m (letters (kind_word k) p) ≡ nothing (Ok (in_mode (mode.Variables k false) m))
+kind-step m k p at section = grind (arith, nat_tests)
 
-knows_in : (m : Reader) (qs : List Variable) (k : Kind) → Knows m qs → Knows (in_mode (mode.Variables k false) m) qs
-knows_in m qs k h = record { positions = h.positions; count = h.count; kinds = h.kinds; mask = h.mask; range = h.range; once = h.once }
+knows_in : (m : State) (qs : List Variable) (k : Kind) → Knows m qs → Knows (in_mode (mode.Variables k false) m) qs
+knows_in m qs k h = grind (arith, nat_tests)
 
 -- The variables of a line before those of later lines.
 order-more : (qs : List Variable) (q : Quantifier) (quants : List Quantifier) → (qs ++ map (variable q.kind) q.variables) ++ order quants ≡ qs ++ order (q ∷ quants)
 order-more qs q quants = append_assoc qs (map (variable q.kind) q.variables) (order quants)
 
 -- Facts on an order, of its front.
-range_front : (n : ℕ) (k : Kind) (vs : List ℕ) (ys : List Variable) → AllByRecursion (λ q. Ranges n q.name) (map (variable k) vs ++ ys) → AllByRecursion (Ranges n) vs × AllByRecursion (λ q. Ranges n q.name) ys
-range_front n k [] ys r = (tt, r)
-range_front n k (v ∷ vs) ys r = let go = range_front n k vs ys r.1 in ((r.0, go.0), go.1)
+pub range_front : (n : ℕ) (k : Kind) (vs : List ℕ) (ys : List Variable) → All (Ranged n) (map (variable k) vs ++ ys) → All (Ranges n) vs × All (Ranged n) ys
+range_front n k [] ys r = (All-nil (Ranges n), r)
+range_front n k (v ∷ vs) ys r =
+    let later = map (variable k) vs ++ ys in
+    let go = range_front n k vs ys (All-tail (Ranged n) (variable k v) later r) in
+    (All-cons (Ranges n) v vs (All-head (Ranged n) (variable k v) later r) go.0, go.1)
+
+-- A line has a variable.
+abbrev pub SomeVariable : Quantifier → Type 0
+SomeVariable q = 1 ≤ length q.variables
 
 -- What is wanted of lines that are still to come.
-pub record Fit (m : Reader) (qs : List Variable) (quants : List Quantifier) (rules : List (List Signed)) : Type 0 where
-  pub some : AllByRecursion (λ q. 1 ≤ length q.variables) quants
-  pub range : AllByRecursion (λ q. Ranges m.length q.name) (order quants)
+pub record Fit (m : State) (qs : List Variable) (quants : List Quantifier) (rules : List (List Signed)) : Type 0 where
+  pub some : All SomeVariable quants
+  pub range : All (Ranged m.length) (order quants)
   pub once : Once (qs ++ order quants)
   pub reports : report_count (kinds_in (qs ++ order quants)) ≤ 12
   pub count : length (qs ++ order quants) ≡ m.length
   pub few : m.read + length rules ≤ m.rules
-  pub known : AllByRecursion (AllByRecursion (λ l. Ranges m.length l.variable)) rules
-  pub distinct : AllByRecursion Distinct (map (map (placed (qs ++ order quants))) rules)
+  pub known : All (All (Known m.length)) rules
+  pub distinct : All Distinct (map (map (placed (qs ++ order quants))) rules)
 
 -- A reader that has read the header and lines of this kind.
-pub record Quantifying (m : Reader) (qs : List Variable) : Type 0 where
+pub record Quantifying (m : State) (qs : List Variable) : Type 0 where
   pub mode : m.mode ≡ mode.LineStart
   pub section : m.section ≡ Quantifiers
   pub sound : Sound m
   pub knows : Knows m qs
 
-fit_next : (m after : Reader) (qs : List Variable) (q : Quantifier) (quants : List Quantifier) (rules : List (List Signed)) → Fit m qs (q ∷ quants) rules → LineRead m after (qs ++ map (variable q.kind) q.variables)
+fit_next : (m after : State) (qs : List Variable) (q : Quantifier) (quants : List Quantifier) (rules : List (List Signed)) → Fit m qs (q ∷ quants) rules → LineRead m after (qs ++ map (variable q.kind) q.variables)
     → Fit after (qs ++ map (variable q.kind) q.variables) quants rules
 fit_next m after qs q quants rules f l =
     let to = sym (order-more qs q quants) in
     record {
-      some = f.some.1;
-      range = subst (λ (n : ℕ). AllByRecursion (λ q. Ranges n q.name) (order quants)) (sym l.length) (range_front m.length q.kind q.variables (order quants) f.range).1;
+      some = All-tail SomeVariable q quants f.some;
+      range = subst (λ (n : ℕ). All (Ranged n) (order quants)) (sym l.length) (range_front m.length q.kind q.variables (order quants) f.range).1;
       once = subst Once to f.once;
       reports = subst (λ (qs : List Variable). report_count (kinds_in qs) ≤ 12) to f.reports;
       count = ap length (order-more qs q quants) ∙ f.count ∙ sym l.length;
       few = omega (arith, f.few, l.read, l.rules);
-      known = subst (λ (n : ℕ). AllByRecursion (AllByRecursion (λ l. Ranges n l.variable)) rules) (sym l.length) f.known;
-      distinct = subst (λ (qs : List Variable). AllByRecursion Distinct (map (map (placed qs)) rules)) to f.distinct;
+      known = subst (λ (n : ℕ). All (All (Known n)) rules) (sym l.length) f.known;
+      distinct = subst (λ (qs : List Variable). All Distinct (map (map (placed qs)) rules)) to f.distinct;
     }
 
 -- The front of an order has no more reports than the whole.
 front_reports : (xs ys : List Variable) → report_count (kinds_in (xs ++ ys)) ≤ 12 → report_count (kinds_in xs) ≤ 12
 front_reports xs ys h = omega (arith, count-kinds xs ys)
 
-pub sheet_forth : (raw : List (List (List ℕ))) (quants : List Quantifier) (rules : List (List Signed)) (m : Reader) (qs : List Variable) (ts : Tokens) → Lined raw ts
+pub sheet_forth : (raw : List (List (List ℕ))) (quants : List Quantifier) (rules : List (List Signed)) (m : State) (qs : List Variable) (ts : Tokens) → Lined raw ts
     → non_empty raw ≡ map quantifier_line quants ++ map rule_line rules → Quantifying m qs → Fit m qs quants rules
-    → (after : Reader) × (run (progress m [] []) ts ≡ Ok (progress after [] (map (map (placed (qs ++ order quants))) rules))) × RulesOver m after (length rules) (qs ++ order quants)
+    → (after : State) × (run (progress m [] []) ts ≡ Ok (progress after [] (map (map (placed (qs ++ order quants))) rules))) × RulesOver m after (length rules) (qs ++ order quants)
 sheet_forth raw [] rules m qs ts l e h f =
     let nil : qs ++ [] ≡ qs = append-nil qs in
     let named : m.named ≡ m.length = h.knows.count ∙ sym (ap length nil) ∙ f.count in
-    let go = rules_forth qs raw rules m [] ts l e h.mode (not_opening_too h.section) named h.knows h.sound.short f.few f.known (subst (λ (qs : List Variable). AllByRecursion Distinct (map (map (placed qs)) rules)) nil f.distinct) in
+    let go = rules_forth qs raw rules m [] ts l e h.mode (not_opening_too h.section) named h.knows h.sound.short f.few f.known (subst (λ (qs : List Variable). All Distinct (map (map (placed qs)) rules)) nil f.distinct) in
     (go.0, go.1 ∙ ap (λ (qs : List Variable). Ok (progress go.0 [] (map (map (placed qs)) rules))) (sym nil), subst (λ (qs : List Variable). RulesOver m go.0 (length rules) qs) (sym nil) go.2)
 sheet_forth [] (q ∷ quants) rules m qs ts l e h f = absurd (nil_cons e)
 sheet_forth ([] ∷ raw) (q ∷ quants) rules m qs ts l e h f =
@@ -101,7 +107,7 @@ sheet_forth ((w ∷ ws) ∷ raw) (q ∷ quants) rules m qs ts l e h f =
     let does = kind-step m k line.0 h.mode h.section in
     let is : ts ≡ next (letters (kind_word k) line.0) line.1 = line.2 ∙ ap (λ t. next t line.1) (sort_kind k line.0) in
     let to = sym (order-more qs q quants) in
-    let go1 = variables_forth k [] [] l.0 q.variables m1 false qs line.1 line.3 refl (quiet_sound m m1 (letters (kind_word k) line.0) (Ok m1) h.sound does refl) (knows_in m qs k h.knows) (λ _. f.some.0)
+    let go1 = variables_forth k [] [] l.0 q.variables m1 false qs line.1 line.3 refl (quiet_sound m m1 (letters (kind_word k) line.0) (Ok m1) h.sound does refl) (knows_in m qs k h.knows) (λ _. All-head SomeVariable q quants f.some)
     (range_front m.length k q.variables (order quants) f.range).0 (once_front (qs ++ map (variable k) q.variables) (order quants) (subst Once to f.once))
     (front_reports (qs ++ map (variable k) q.variables) (order quants) (subst (λ (qs : List Variable). report_count (kinds_in qs) ≤ 12) to f.reports)) in
     let read = go1.2 in
@@ -121,34 +127,34 @@ sheet_forth ((w ∷ ws) ∷ raw) (q ∷ quants) rules m qs ts l e h f =
     )
 
 -- What is read after the header were quantifier lines and rules.
-pub record SheetRead (qs : List Variable) (raw : List (List (List ℕ))) (m : Reader) (z : Progress) : Type 0 where
+pub record SheetRead (qs : List Variable) (raw : List (List (List ℕ))) (m : State) (z : Progress) : Type 0 where
   pub quantifiers : List Quantifier
   pub rules : List (List Signed)
   pub lines : non_empty raw ≡ map quantifier_line quantifiers ++ map rule_line rules
-  pub some : AllByRecursion (λ q. 1 ≤ length q.variables) quantifiers
+  pub some : All SomeVariable quantifiers
   pub reports : report_count (kinds_in (qs ++ order quantifiers)) ≤ 12
-  pub known : AllByRecursion (AllByRecursion (λ l. Ranges m.length l.variable)) rules
-  pub distinct : AllByRecursion Distinct (map (map (placed (qs ++ order quantifiers))) rules)
+  pub known : All (All (Known m.length)) rules
+  pub distinct : All Distinct (map (map (placed (qs ++ order quantifiers))) rules)
   pub result : z.rules ≡ map (map (placed (qs ++ order quantifiers))) rules
   pub over : RulesOver m z.reader (length rules) (qs ++ order quantifiers)
 
-only-rules : (qs : List Variable) (raw : List (List (List ℕ))) (m : Reader) (z : Progress) → report_count (kinds_in qs) ≤ 12 → RulesRead qs raw m [] z → SheetRead qs raw m z
+only-rules : (qs : List Variable) (raw : List (List (List ℕ))) (m : State) (z : Progress) → report_count (kinds_in qs) ≤ 12 → RulesRead qs raw m [] z → SheetRead qs raw m z
 only-rules qs raw m z few r =
     let nil = sym (append-nil qs) in
     record {
       quantifiers = [];
       rules = r.rules;
       lines = r.lines;
-      some = tt;
+      some = All-nil SomeVariable;
       reports = subst (λ (qs : List Variable). report_count (kinds_in qs) ≤ 12) nil few;
       known = r.known;
-      distinct = subst (λ (qs : List Variable). AllByRecursion Distinct (map (map (placed qs)) r.rules)) nil r.distinct;
+      distinct = subst (λ (qs : List Variable). All Distinct (map (map (placed qs)) r.rules)) nil r.distinct;
       result = r.result ∙ ap (λ (qs : List Variable). map (map (placed qs)) r.rules) nil;
       over = subst (λ (qs : List Variable). RulesOver m z.reader (length r.rules) qs) nil r.over;
     }
 
 -- One quantifier line before what else was read.
-line_before : (qs : List Variable) (raw : List (List (List ℕ))) (m after : Reader) (z : Progress) (q : Quantifier) (w : List ℕ) (ws : List (List ℕ)) → w ∷ ws ≡ quantifier_line q → 1 ≤ length q.variables
+line_before : (qs : List Variable) (raw : List (List (List ℕ))) (m after : State) (z : Progress) (q : Quantifier) (w : List ℕ) (ws : List (List ℕ)) → w ∷ ws ≡ quantifier_line q → 1 ≤ length q.variables
     → LineRead m after (qs ++ map (variable q.kind) q.variables) → SheetRead (qs ++ map (variable q.kind) q.variables) raw after z → SheetRead qs ((w ∷ ws) ∷ raw) m z
 line_before qs raw m after z q w ws is one l r =
     let to = order-more qs q r.quantifiers in
@@ -156,10 +162,10 @@ line_before qs raw m after z q w ws is one l r =
       quantifiers = q ∷ r.quantifiers;
       rules = r.rules;
       lines = λ i. is i ∷ r.lines i;
-      some = (one, r.some);
+      some = All-cons SomeVariable q r.quantifiers one r.some;
       reports = subst (λ (qs : List Variable). report_count (kinds_in qs) ≤ 12) to r.reports;
-      known = subst (λ (n : ℕ). AllByRecursion (AllByRecursion (λ l. Ranges n l.variable)) r.rules) l.length r.known;
-      distinct = subst (λ (qs : List Variable). AllByRecursion Distinct (map (map (placed qs)) r.rules)) to r.distinct;
+      known = subst (λ (n : ℕ). All (All (Known n)) r.rules) l.length r.known;
+      distinct = subst (λ (qs : List Variable). All Distinct (map (map (placed qs)) r.rules)) to r.distinct;
       result = r.result ∙ ap (λ (qs : List Variable). map (map (placed qs)) r.rules) to;
       over = record {
         form = r.over.form ∙ l.form;
@@ -171,15 +177,15 @@ line_before qs raw m after z q w ws is one l r =
       };
     }
 
-pub sheet_back : (raw : List (List (List ℕ))) (m : Reader) (qs : List Variable) (ts : Tokens) (z : Progress) → Lined raw ts → Quantifying m qs → report_count (kinds_in qs) ≤ 12 → run (progress m [] []) ts ≡ Ok z → SheetRead qs raw m z
+pub sheet_back : (raw : List (List (List ℕ))) (m : State) (qs : List Variable) (ts : Tokens) (z : Progress) → Lined raw ts → Quantifying m qs → report_count (kinds_in qs) ≤ 12 → run (progress m [] []) ts ≡ Ok z → SheetRead qs raw m z
 sheet_back [] m qs ts z l h few e =
     let same = run-stop (progress m [] []) z ts l e in
     only-rules qs [] m z few
     (record {
       rules = [];
       lines = refl;
-      known = tt;
-      distinct = tt;
+      known = All-nil (All (Known m.length));
+      distinct = All-nil Distinct;
       result = ap (λ (p : Progress). p.rules) (sym same);
       over = subst (λ (p : Progress). RulesOver m p.reader 0 qs) same (record { form = refl; length = refl; rules = refl; read = omega arith; late = not_opening_too h.section; knows = h.knows });
     })

@@ -1,8 +1,9 @@
 -- The words that are numbers: each is what `decimal` writes of its value.
+use Rattle.std.proofs.lemmas.Bool.Decides.{nat_tests}
 use Rattle.std.proofs.Common.{◌≡◌, ℕ, zero, suc, ◌+◌, ◌-◌, ◌*◌, ◌^◌, ◌<◌, Bool, true, false, cond, ◌&&◌, eqb, ltb, ◌⊎◌, List, [], ◌∷◌, length, get_or, Some, None, decimal, Option, sym, refl, ap, ◌∙◌, inl, inr, ⊎_elim, arith, rules}
 use Rattle.std.proofs.lemmas.Fmt.{decimal_nonempty, length-decimal-le, first_decimal, digits_decimal, digits_value-decimal, decimal-digits_value, decimal_digit}
 use Rattle.std.proofs.lemmas.Str.Parse.{IsNumeralModel, numerals_by_fold, digits_value_short}
-use Rattle.std.proofs.lemmas.Bool.{cond-true, cond-false, cases_Bool, ltb-false, and_cases, eqb-false, eqb-true, ne_eqb, le-ltb}
+use Rattle.std.proofs.lemmas.Bool.{cond-true, cond-false, cases_Bool, ltb-false, and_cases, eqb-false, eqb-true, le-ltb}
 use Rattle.std.specs.Int.{IsInRange}
 use Rattle.sheet_text.specs.Words.{digits_on, natural_of, negated, unsigned, numeral_of}
 use Rattle.sheet_text.specs.declared.word.Number.{Number}
@@ -20,7 +21,7 @@ own : IsNumeralModel Digital (value_on 0)
 own = numerals_by_fold Digital (search rules) value_on (search rules)
 
 pub none_some : {X : Type 0} (x : X) → ◌≡◌ {A = Option X} None (Some x) → ⊥
-none_some x e = let z : ◌≡◌ {A = ℕ} 0 1 = cc in omega arith
+none_some x e = cc e
 
 -- A test whose yes gives nothing was no where something came.
 past_test : {X : Type 0} (b : Bool) (o : Option X) (x : X) → cond b None o ≡ Some x → (b ≡ false) × (o ≡ Some x)
@@ -71,29 +72,22 @@ plain v = record { value = v; negative = false }
 abbrev pub minus : ℕ → Number
 minus v = record { value = v; negative = true }
 
-no_minus : (w : List ℕ) (v : ℕ) → natural_of w ≡ Some v → (b : ℕ) (bs : List ℕ) → w ≡ b ∷ bs → eqb b 45 ≡ false
-no_minus w v e b bs is =
-    let long = past_test (ltb 6 (length (b ∷ bs))) _ v (sym (ap natural_of is) ∙ e) in
-    let led = past_test (eqb b 48 && ltb 1 (length (b ∷ bs))) _ v long.1 in
-    let read = digits_back (b ∷ bs) 0 v led.1 in
-    ne_eqb b 45 (λ z. omega (arith, read.0.0.0))
-
 pub numeral_plain : (w : List ℕ) (v : ℕ) → natural_of w ≡ Some v → numeral_of w ≡ Some (plain v)
 unfolding numeral_of
 numeral_plain [] v e = absurd (none_some v e)
-numeral_plain (b ∷ bs) v e = cond-false _ _ _ (no_minus (b ∷ bs) v e b bs refl) ∙ ap unsigned e
+numeral_plain (b ∷ bs) v e = grind (arith, nat_tests)
 
 pub numeral_minus : (w : List ℕ) (v : ℕ) → natural_of w ≡ Some v → (v ≡ 0 → ⊥) → numeral_of (45 ∷ w) ≡ Some (minus v)
 unfolding numeral_of
-numeral_minus w v e ne = ap negated e ∙ cond-false _ _ _ (ne_eqb v 0 ne)
+numeral_minus w v e ne = grind (arith, nat_tests)
 
 negated_back : (o : Option ℕ) (n : Number) → negated o ≡ Some n → (v : ℕ) × (o ≡ Some v) × (v ≡ 0 → ⊥) × (n ≡ minus v)
 negated_back None n e = absurd (none_some n e)
-negated_back (Some v) n e = let p = past_test (eqb v 0) (Some (minus v)) n e in (v, refl, eqb-false v 0 p.0, (let q : minus v ≡ n = cc p.1 in sym q))
+negated_back (Some v) n e = grind (arith, nat_tests)
 
 unsigned_back : (o : Option ℕ) (n : Number) → unsigned o ≡ Some n → (v : ℕ) × (o ≡ Some v) × (n ≡ plain v)
 unsigned_back None n e = absurd (none_some n e)
-unsigned_back (Some v) n e = (v, refl, (let q : plain v ≡ n = cc e in sym q))
+unsigned_back (Some v) n e = grind (arith, nat_tests)
 
 -- A word that is a number is its decimals, or a minus and its decimals.
 pub numeral_back : (w : List ℕ) (n : Number) → numeral_of w ≡ Some n

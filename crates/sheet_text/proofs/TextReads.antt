@@ -1,8 +1,8 @@
 -- A text is read exactly when the grammar has it say a sheet, and then as that sheet.
-use Rattle.std.proofs.Common.{◌≡◌, ℕ, ◌^◌, ◌<◌, ◌≤◌, eqb, ◌⊎◌, ◌↔◌, List, [], ◌∷◌, ◌++◌, map, length, replicate, Some, None, Ok, Err, codes, Result, sym, refl, ap, ◌∙◌, subst, inl, inr, ⊎_elim, arith}
+use Rattle.std.proofs.lemmas.Bool.Decides.{nat_tests}
+use Rattle.std.proofs.Common.{All, ◌≡◌, ℕ, ◌^◌, ◌<◌, ◌≤◌, ◌⊎◌, ◌↔◌, List, [], ◌∷◌, ◌++◌, map, length, replicate, Some, None, Ok, Err, codes, Result, sym, refl, ap, ◌∙◌, subst, inl, inr, ⊎_elim, arith}
 use Rattle.std.proofs.lemmas.List.{length-map}
-use Rattle.std.proofs.lemmas.Bool.{cond-true, cond_both, eqb-true, eq-eqb}
-use Rattle.std.specs.List.{AllByRecursion}
+use Rattle.std.proofs.lemmas.List.Elements.{All-nil, All-cons, All-head, All-tail}
 use Rattle.prefix.proofs.Positions.{length-kinds}
 use Rattle.prefix.specs.Kinds.{report_count}
 use Rattle.prefix.specs.Limits.{Limits}
@@ -10,34 +10,35 @@ use Rattle.prefix.specs.Prefixes.{kinds_of}
 use Rattle.prefix.specs.declared.kind.Kind.{Kind}
 use Rattle.sheet.specs.Literals.{Distinct}
 use Rattle.sheet.specs.declared.form.Form.{Form}
-use Rattle.sheet_text.specs.Grammar.{pieces, non_empty, words_of, Comment, header_line, quantifier_line, rule_line, order, placed, Ranges, Says}
+use Rattle.sheet_text.specs.Grammar.{pieces, non_empty, words_of, Comment, header_line, quantifier_line, rule_line, order, placed, Says}
 use Rattle.sheet_text.specs.Keeping.{position_at}
-use Rattle.sheet_text.specs.Machine.{blank, start, in_mode, open_in, opened, first_word}
+use Rattle.sheet_text.specs.Machine.{start, in_mode, open_in, opened, first_word}
 use Rattle.sheet_text.specs.Reading.{Sheet, Progress, begin, given, run, complete, finished, whole, ending, read_through, sheet_of, sheet_from, read_text}
 use Rattle.sheet_text.specs.Words.{letters, number, sort_word, numeral_of, Tokens, next, gap, tokens}
 use Rattle.faults.specs.declared.sheet.SheetFault.{SheetFault}
 use Rattle.faults.specs.declared.sheet.SheetFault.TheVariants as fault
-use Rattle.sheet_text.specs.declared.reader.Mode.TheVariants as mode
-use Rattle.sheet_text.specs.declared.reader.Reader.{Reader}
-use Rattle.sheet_text.specs.declared.reader.Section.{Section}
-use Rattle.sheet_text.specs.declared.reader.Section.TheVariants.{Opening, Quantifiers, Rules}
-use Rattle.sheet_text.specs.declared.reader.lines.First.{First}
-use Rattle.sheet_text.specs.declared.reader.lines.First.TheVariants as first
+use Rattle.sheet_text.specs.declared.state.Mode.TheVariants as mode
+use Rattle.sheet_text.specs.declared.state.State.{State}
+use Rattle.sheet_text.specs.declared.state.Section.{Section}
+use Rattle.sheet_text.specs.declared.state.Section.TheVariants.{Opening, Quantifiers, Rules}
+use Rattle.sheet_text.specs.declared.first.First.{First}
+use Rattle.sheet_text.specs.declared.first.First.TheVariants as first
 use Rattle.sheet_text.specs.declared.word.Number.{Number}
 use Rattle.sheet_text.proofs.HeaderReads.{comment_line, headed, header_forth, header_back}
 use Rattle.sheet_text.proofs.Lining.{Line, Lined, lined_text, clean_allowed}
 use Rattle.sheet_text.proofs.LineReads.{heads, tails, nil_cons, blank-line, letters-step}
-use Rattle.sheet_text.proofs.Naming.{knows_none, knows_reports}
+use Rattle.sheet_text.proofs.Naming.{Ranged, knows_none, knows_reports}
+use Rattle.sheet_text.proofs.RuleReads.{Known}
 use Rattle.sheet_text.proofs.Running.{progress, run_back, run-stop, run_clean}
 use Rattle.sheet_text.proofs.SheetReads.{Quantifying, sheet_forth, sheet_back}
-use Rattle.sheet_text.proofs.Steps.{err_ok, filled_none}
+use Rattle.sheet_text.proofs.Steps.{err_ok, filled_none, none_at}
 use Rattle.sheet_text.proofs.Turning.{turn}
 use Rattle.sheet_text.proofs.VariableReads.{kinds_in}
 use Rattle.sheet_text.proofs.WordReads.{sort_cases, sort_c, sort_p, begins_with}
 
 -- Comments and the header are read where the lines begin with them.
 opening_forth : (raw comments : List (List (List ℕ))) (f : Form) (n r : ℕ) (tail : List (List (List ℕ))) (ts : Tokens) → Lined raw ts → non_empty raw ≡ comments ++ header_line f n r ∷ tail
-    → AllByRecursion Comment comments → 1 ≤ n → n ≤ 24 → r ≤ 256
+    → All Comment comments → 1 ≤ n → n ≤ 24 → r ≤ 256
     → (left : List (List (List ℕ))) × (rest : Tokens) × Lined left rest × (non_empty left ≡ tail) × (run begin ts ≡ run (progress (headed f n r) [] []) rest)
 opening_forth [] [] f n r tail ts l e c low high few = absurd (nil_cons e)
 opening_forth [] (x ∷ comments) f n r tail ts l e c low high few = absurd (nil_cons e)
@@ -55,15 +56,16 @@ opening_forth ((w ∷ ws) ∷ raw) [] f n r tail ts l e c low high few =
           ∙ header_forth f n r [] [] line.1 l.0 low high few line.3,
     )
 opening_forth ((w ∷ ws) ∷ raw) (x ∷ comments) f n r tail ts l e c low high few =
-    let line : Line (codes "c" ∷ c.0.0) ts l.0 = subst (λ (ws : List (List ℕ)). Line ws ts l.0) (heads e ∙ c.0.1) l.1 in
+    let here : Comment x = All-head Comment x comments c in
+    let line : Line (codes "c" ∷ here.0) ts l.0 = subst (λ (ws : List (List ℕ)). Line ws ts l.0) (heads e ∙ here.1) l.1 in
     let m = in_mode mode.Comment start in
-    let go = opening_forth raw comments f n r tail l.0 l.2 (tails e) c.1 low high few in (
+    let go = opening_forth raw comments f n r tail l.0 l.2 (tails e) (All-tail Comment x comments c) low high few in (
       go.0,
       go.1,
       go.2,
       go.3,
       turn start [] [] ts line.1 (letters (codes "c") line.0) (Ok m) (line.2 ∙ ap (λ t. next t line.1) (sort_c line.0)) refl m refl
-          ∙ comment_line c.0.0 [] [] line.1 l.0 line.3 ∙ go.4,
+          ∙ comment_line here.0 [] [] line.1 l.0 line.3 ∙ go.4,
     )
 
 -- What is read before the quantifier lines were comments and the header.
@@ -76,7 +78,7 @@ record OpeningRead (raw : List (List (List ℕ))) (z : Progress) : Type 0 where
   rest : Tokens
   lined : Lined left rest
   lines : non_empty raw ≡ comments ++ header_line form positions rules ∷ non_empty left
-  commented : AllByRecursion Comment comments
+  commented : All Comment comments
   some : 1 ≤ positions
   short : positions ≤ 24
   few : rules ≤ 256
@@ -120,7 +122,7 @@ opening_back ((w ∷ ws) ∷ raw) ts z l e late =
       rest = go.rest;
       lined = go.lined;
       lines = ap (λ ls. (w ∷ ws) ∷ ls) go.lines;
-      commented = ((ws, ap (λ (w : List ℕ). w ∷ ws) c.0), go.commented);
+      commented = All-cons Comment (w ∷ ws) go.comments (ws, ap (λ (w : List ℕ). w ∷ ws) c.0) go.commented;
       some = go.some;
       short = go.short;
       few = go.few;
@@ -137,7 +139,7 @@ opening_back ((w ∷ ws) ∷ raw) ts z l e late =
       rest = l.0;
       lined = l.2;
       lines = λ i. (c.0 i ∷ h.words i) ∷ non_empty raw;
-      commented = tt;
+      commented = All-nil Comment;
       some = h.some;
       short = h.short;
       few = h.few;
@@ -148,7 +150,7 @@ opening_back ((w ∷ ws) ∷ raw) ts z l e late =
 
 -- The reader after the header knows no variable.
 headed_blank : (f : Form) (n r : ℕ) (i : ℕ) → position_at (headed f n r) i ≡ 0
-headed_blank f n r i = filled_none (replicate 24 blank) refl i
+headed_blank f n r i = filled_none (replicate 24 None) refl i
 
 headed_ready : (f : Form) (n r : ℕ) → n ≤ 24 → r ≤ 256 → Quantifying (headed f n r) []
 headed_ready f n r short few = record {
@@ -161,6 +163,7 @@ headed_ready f n r short few = record {
     count = refl;
     bound = omega arith;
     placed = λ i. omega (arith, headed_blank f n r i);
+    known = λ i _. none_at 24 i;
     read = omega arith;
     named = λ i _. headed_blank f n r i;
     mode = tt;
@@ -169,25 +172,25 @@ headed_ready f n r short few = record {
 }
 
 -- The end of a text that is read.
-record Finished (m : Reader) : Type 0 where
+record Finished (m : State) : Type 0 where
   late : m.section ≡ Opening → ⊥
   named : m.named ≡ m.length
   read : m.read ≡ m.rules
 
-abbrev Done : Reader → Result (Unit {0}) SheetFault → Type 0
+abbrev Done : State → Result (Unit {0}) SheetFault → Type 0
 Done m (Ok x) = (m.named ≡ m.length) × (m.read ≡ m.rules)
 Done m (Err f) = Unit {0}
 
-complete_back : (p : ℕ) (m : Reader) (x : Unit {0}) → complete p m ≡ Ok x → (m.named ≡ m.length) × (m.read ≡ m.rules)
+complete_back : (p : ℕ) (m : State) (x : Unit {0}) → complete p m ≡ Ok x → (m.named ≡ m.length) × (m.read ≡ m.rules)
 complete_back p m x e = subst (Done m) e did
   where
     did : Done m (complete p m)
-    did = cond_both (eqb m.named m.length) _ _ (Done m) (λ a. cond_both (eqb m.read m.rules) _ _ (Done m) (λ b. (eqb-true m.named m.length a, eqb-true m.read m.rules b)) (λ _. tt)) (λ _. tt)
+    did = grind (arith, nat_tests)
 
-section_late : (s : Section) (m : Reader) (p : ℕ) (x : Unit {0}) → finished p s m ≡ Ok x → (s ≡ Opening → ⊥) × (complete p m ≡ Ok x)
+section_late : (s : Section) (m : State) (p : ℕ) (x : Unit {0}) → finished p s m ≡ Ok x → (s ≡ Opening → ⊥) × (complete p m ≡ Ok x)
 section_late Opening m p x e = absurd (err_ok (fault.Word p) x e)
-section_late Quantifiers m p x e = ((λ f. let z : ◌≡◌ {A = ℕ} 0 1 = cc f in omega arith), e)
-section_late Rules m p x e = ((λ f. let z : ◌≡◌ {A = ℕ} 0 1 = cc f in omega arith), e)
+section_late Quantifiers m p x e = ((λ f. cc f), e)
+section_late Rules m p x e = ((λ f. cc f), e)
 
 ending_back : (p : ℕ) (o : Result Progress SheetFault) (z : Progress) → ending p o ≡ Ok z → (o ≡ Ok z) × Finished z.reader
 ending_back p (Err f) z e = absurd (err_ok f z e)
@@ -201,10 +204,10 @@ ending_back p (Ok s) z e = by (finished p s.reader.section s.reader) refl e
         (q, subst (λ (p : Progress). Finished p.reader) same (record { late = l.0; named = c.0; read = c.1 }))
     by (Err f) is q = absurd (err_ok f z q)
 
-finished_forth : (p : ℕ) (s : Section) (m : Reader) → (s ≡ Opening → ⊥) → m.named ≡ m.length → m.read ≡ m.rules → finished p s m ≡ Ok tt
+finished_forth : (p : ℕ) (s : Section) (m : State) → (s ≡ Opening → ⊥) → m.named ≡ m.length → m.read ≡ m.rules → finished p s m ≡ Ok tt
 finished_forth p Opening m late named read = absurd (late refl)
-finished_forth p Quantifiers m late named read = cond-true _ _ _ (eq-eqb m.named m.length named) ∙ cond-true _ _ _ (eq-eqb m.read m.rules read)
-finished_forth p Rules m late named read = cond-true _ _ _ (eq-eqb m.named m.length named) ∙ cond-true _ _ _ (eq-eqb m.read m.rules read)
+finished_forth p Quantifiers m late named read = grind (arith, nat_tests)
+finished_forth p Rules m late named read = grind (arith, nat_tests)
 
 -- A text that is read says the sheet that is read, whose prefix is within the limits.
 pub read-says : (t : List ℕ) (z : Progress) → read_through t ≡ Ok z → Says t (sheet_of z) × Limits z.reader.length z.reader.reports
@@ -234,11 +237,11 @@ read-says t z e =
         commented = o.commented;
         some = r.some;
         kinds = kinds-is;
-        named = subst (λ (n : ℕ). AllByRecursion (λ q. Ranges n q.name) qs) (sym long) k.range;
+        named = subst (λ (n : ℕ). All (Ranged n) qs) (sym long) k.range;
         once = k.once;
         literals = r.result;
-        known = subst (λ (n : ℕ). AllByRecursion (AllByRecursion (λ l. Ranges n l.variable)) r.rules) (sym (long ∙ n-is)) r.known;
-        distinct = subst (AllByRecursion Distinct) (sym r.result) r.distinct;
+        known = subst (λ (n : ℕ). All (All (Known n)) r.rules) (sym (long ∙ n-is)) r.known;
+        distinct = subst (All Distinct) (sym r.result) r.distinct;
         positions = (omega (arith, o.some, long, n-is), omega (arith, o.short, long, n-is));
         reports = subst (λ (ks : List Kind). report_count ks ≤ 12) (sym kinds-is) r.reports;
         few = omega (arith, rules-is, o.few);
@@ -265,7 +268,7 @@ says-read t s h =
       count = long;
       few = omega arith;
       known = h.known;
-      distinct = subst (AllByRecursion Distinct) h.literals h.distinct;
+      distinct = subst (All Distinct) h.literals h.distinct;
     }) in
     let m = go.0 in
     let over = go.2 in
@@ -282,7 +285,7 @@ says-read t s h =
     )
 
 from_back : (o : Result Progress SheetFault) (s : Sheet) → sheet_from o ≡ Ok s → (z : Progress) × (o ≡ Ok z) × (sheet_of z ≡ s)
-from_back (Ok z) s e = (z, refl, (let same : sheet_of z ≡ s = cc e in same))
+from_back (Ok z) s e = grind (arith, nat_tests)
 from_back (Err f) s e = absurd (err_ok f s e)
 
 -- Both ways.

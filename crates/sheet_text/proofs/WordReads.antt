@@ -1,19 +1,20 @@
 -- What single words do to the reader, as numbers and as letters.
-use Rattle.std.proofs.Common.{◌≡◌, ℕ, ◌<◌, Bool, true, false, eqb, ◌⊎◌, List, [], ◌∷◌, Some, None, Ok, Err, codes, decimal, Option, Result, sym, refl, ap, ◌∙◌, subst, inl, inr, ⊎_elim, arith}
+use Rattle.std.proofs.lemmas.Bool.Decides.{nat_tests}
+use Rattle.std.proofs.Common.{◌≡◌, ℕ, ◌<◌, Bool, true, false, ◌⊎◌, List, ◌∷◌, Some, None, Ok, Err, codes, decimal, Option, Result, sym, refl, ap, ◌∙◌, inl, inr, ⊎_elim, arith}
 use Rattle.std.proofs.lemmas.Fmt.{decimal_digit}
-use Rattle.std.proofs.lemmas.Bool.{cond-true, cond-false, cond_both, false≢true, cases_Bool, eqb-true}
+use Rattle.std.proofs.lemmas.Bool.{cond-true, cond-false, cases_Bool}
 use Rattle.prefix.specs.declared.kind.Kind.{Kind}
 use Rattle.prefix.specs.declared.kind.Kind.TheVariants.{Report, Reply}
 use Rattle.sheet.specs.declared.form.Form.{Form}
 use Rattle.sheet.specs.declared.form.Form.TheVariants.{Cnf, Dnf}
 use Rattle.sheet_text.specs.Grammar.{form_word, kind_word}
-use Rattle.sheet_text.specs.Machine.{first_word, other_first, is_letter, form_of, natural}
+use Rattle.sheet_text.specs.Machine.{first_word}
+use Rattle.sheet_text.specs.Wanted.{after, form_of, natural_in}
 use Rattle.sheet_text.specs.Words.{Token, letters, number, line_end, numeral_of, sort_word, sorted}
 use Rattle.faults.specs.declared.sheet.SheetFault.{SheetFault}
 use Rattle.faults.specs.declared.sheet.SheetFault.TheVariants as fault
-use Rattle.sheet_text.specs.declared.reader.Reader.{Reader}
-use Rattle.sheet_text.specs.declared.reader.lines.First.{First}
-use Rattle.sheet_text.specs.declared.reader.lines.First.TheVariants as first
+use Rattle.sheet_text.specs.declared.first.First.{First}
+use Rattle.sheet_text.specs.declared.first.First.TheVariants as first
 use Rattle.sheet_text.specs.declared.word.Number.{Number}
 use Rattle.sheet_text.proofs.Spelled.{natural-decimal, numeral_plain, numeral_minus, numeral_back, plain, minus}
 use Rattle.sheet_text.proofs.Steps.{err_ok}
@@ -54,10 +55,6 @@ unfolding numeral_of
 sort_form Cnf p = refl
 sort_form Dnf p = refl
 
-pub first_kind : (k : Kind) → first_word (kind_word k) ≡ first.Quantifier k
-first_kind Report = refl
-first_kind Reply = refl
-
 pub form_is : (f : Form) → form_of (form_word f) ≡ Some f
 form_is Cnf = refl
 form_is Dnf = refl
@@ -71,25 +68,12 @@ Begins first.Number w = ⊥
 Begins first.Letters w = Unit {0}
 Begins first.Other w = Unit {0}
 
-other_begins : (b : ℕ) (w : List ℕ) → Begins (other_first b) w
-other_begins b w = cond_both (is_letter b) first.Letters first.Other (λ f. Begins f w) (λ _. tt) (λ _. tt)
-
-first_begins : (w : List ℕ) → Begins (first_word w) w
-first_begins [] = tt
-first_begins (b ∷ []) =
-    let B : First → Type 0 = λ f. Begins f (b ∷ []) in
-    cond_both (eqb b 99) _ _ B (λ e. ap (λ (x : ℕ). x ∷ []) (eqb-true b 99 e))
-    (λ _. cond_both (eqb b 112) _ _ B (λ e. ap (λ (x : ℕ). x ∷ []) (eqb-true b 112 e))
-    (λ _. cond_both (eqb b 97) _ _ B (λ e. ap (λ (x : ℕ). x ∷ []) (eqb-true b 97 e))
-    (λ _. cond_both (eqb b 101) _ _ B (λ e. ap (λ (x : ℕ). x ∷ []) (eqb-true b 101 e)) (λ _. other_begins b (b ∷ [])))))
-first_begins (b ∷ c ∷ bs) = other_begins b (b ∷ c ∷ bs)
-
 pub begins_with : (w : List ℕ) (f : First) → first_word w ≡ f → Begins f w
-begins_with w f e = subst (λ (f : First). Begins f w) e (first_begins w)
+begins_with w f e = grind (arith, nat_tests)
 
 -- The word that is a number without a minus.
 plain_not_minus : (v x : ℕ) → plain v ≡ minus x → ⊥
-plain_not_minus v x e = let z : ◌≡◌ {A = Bool} false true = ap (λ (n : Number). n.negative) e in absurd (false≢true z)
+plain_not_minus v x e = grind (arith, nat_tests)
 
 pub plain_word : (w : List ℕ) (p v q : ℕ) → sort_word w p ≡ number (plain v) q → w ≡ decimal v
 plain_word w p v q e =
@@ -101,13 +85,18 @@ plain_word w p v q e =
     (sort_cases w p)
   where
     letters-number : (t : List ℕ) (p : ℕ) (n : Number) (q : ℕ) → letters t p ≡ number n q → ⊥
-    letters-number t p n q e = let z : ◌≡◌ {A = ℕ} 0 1 = cc e in omega arith
+    letters-number t p n q e = cc e
+
+-- What came of a value that was wanted.
+pub wanted_back : {A B : Type 0} (o : Result A SheetFault) (go : A → Result B SheetFault) (u : B) → after o go ≡ Ok u → (x : A) × (o ≡ Ok x) × (go x ≡ Ok u)
+wanted_back (Ok x) go u e = (x, refl, e)
+wanted_back (Err f) go u e = absurd (err_ok f u e)
 
 -- Where a number without a minus is wanted and nothing is wrong, one came.
-pub natural_back : (s : Token) (go : ℕ → ℕ → Result Reader SheetFault) (u : Reader) → natural s go ≡ Ok u → (v : ℕ) × (p : ℕ) × (s ≡ number (plain v) p) × (go v p ≡ Ok u)
+pub natural_back : {B : Type 0} (s : Token) (go : ℕ → Result B SheetFault) (u : B) → after (natural_in s) go ≡ Ok u → (v : ℕ) × (p : ℕ) × (s ≡ number (plain v) p) × (go v ≡ Ok u)
 natural_back (letters t p) go u e = absurd (err_ok (fault.NoNumber p) u e)
 natural_back (number n p) go u e =
-    ⊎_elim (λ (t : n.negative ≡ true). absurd (err_ok (fault.NoNumber p) u (sym (cond-true n.negative (Err (fault.NoNumber p)) (go n.value p) t) ∙ e)))
-    (λ (f : n.negative ≡ false). (n.value, p, ap (λ (b : Bool). number (record { value = n.value; negative = b }) p) f, sym (cond-false n.negative (Err (fault.NoNumber p)) (go n.value p) f) ∙ e))
+    ⊎_elim (λ (t : n.negative ≡ true). absurd (err_ok (fault.NoNumber p) u (sym (ap (λ o. after o go) (cond-true n.negative (Err (fault.NoNumber p)) (Ok n.value) t)) ∙ e)))
+    (λ (f : n.negative ≡ false). (n.value, p, ap (λ (b : Bool). number (record { value = n.value; negative = b }) p) f, sym (ap (λ o. after o go) (cond-false n.negative (Err (fault.NoNumber p)) (Ok n.value) f)) ∙ e))
     (cases_Bool n.negative)
 natural_back (line_end p) go u e = absurd (err_ok (fault.NoNumber p) u e)

@@ -1,12 +1,11 @@
 -- The grammar of a sheet's text: which text says which sheet.
-use Rattle.std.specs.Prelude.{◌≡◌, ℕ, zero, suc, ◌≤◌, Bool, cond, ◌⊎◌, ◌↔◌, List, [], ◌∷◌, ◌++◌, map, length, Ok, codes, decimal, ◌==◌}
-use Rattle.std.specs.List.{AllByRecursion}
+use Rattle.std.specs.Prelude.{All, ◌≡◌, ℕ, zero, suc, ◌≤◌, Bool, cond, ◌⊎◌, ◌↔◌, List, [], ◌∷◌, ◌++◌, map, length, Ok, codes, decimal, ◌==◌}
 use Rattle.prefix.specs.Kinds.{report_count}
 use Rattle.prefix.specs.declared.kind.Kind.{Kind}
-use Rattle.prefix.specs.declared.kind.Kind.TheVariants.{Report, Reply}
+pub use Rattle.prefix.specs.KindWords.{kind_word}
 use Rattle.sheet.specs.Literals.{Distinct}
 use Rattle.sheet.specs.declared.form.Form.{Form}
-use Rattle.sheet.specs.declared.form.Form.TheVariants.{Cnf, Dnf}
+pub use Rattle.sheet.specs.FormWords.{form_word}
 use Rattle.sheet.specs.declared.literal.Literal.{Literal}
 use Rattle.sheet_text.specs.Reading.{Sheet, read_text}
 
@@ -42,10 +41,6 @@ abbrev pub Comment : List (List ℕ) → Type 0
 Comment line = (rest : List (List ℕ)) × (line ≡ codes "c" ∷ rest)
 
 -- The header: p, the form of the rules, how many variables, how many rules.
-abbrev pub form_word : Form → List ℕ
-form_word Cnf = codes "cnf"
-form_word Dnf = codes "dnf"
-
 abbrev pub header_line : Form → ℕ → ℕ → List (List ℕ)
 header_line f n m = codes "p" ∷ form_word f ∷ decimal n ∷ decimal m ∷ []
 
@@ -54,11 +49,7 @@ pub record Quantifier : Type 0 where
   pub kind : Kind
   pub variables : List ℕ
 
--- The word of a kind, and the line's words.
-abbrev pub kind_word : Kind → List ℕ
-kind_word Report = codes "a"
-kind_word Reply = codes "e"
-
+-- The line's words.
 abbrev pub quantifier_line : Quantifier → List (List ℕ)
 quantifier_line q = kind_word q.kind ∷ (map decimal q.variables ++ codes "0" ∷ [])
 
@@ -116,18 +107,18 @@ pub record Says (t : List ℕ) (s : Sheet) : Type 0 where
   pub quantifiers : List Quantifier
   pub rules : List (List Signed)
   -- its bytes, and its lines
-  pub allowed : AllByRecursion Allowed t
+  pub allowed : All Allowed t
   pub lines : lines_of t ≡ comments ++ header_line s.form (length s.kinds) (length s.rules) ∷ (map quantifier_line quantifiers ++ map rule_line rules)
-  pub commented : AllByRecursion Comment comments
+  pub commented : All Comment comments
   -- the quantifier lines give the kinds of the positions
-  pub some : AllByRecursion (λ q. 1 ≤ length q.variables) quantifiers
+  pub some : All (λ q. 1 ≤ length q.variables) quantifiers
   pub kinds : s.kinds ≡ map (λ q. q.kind) (order quantifiers)
-  pub named : AllByRecursion (λ q. Ranges (length s.kinds) q.name) (order quantifiers)
+  pub named : All (λ q. Ranges (length s.kinds) q.name) (order quantifiers)
   pub once : Once (order quantifiers)
   -- the rules give the literals
   pub literals : s.rules ≡ map (map (placed (order quantifiers))) rules
-  pub known : AllByRecursion (AllByRecursion (λ l. Ranges (length s.kinds) l.variable)) rules
-  pub distinct : AllByRecursion Distinct s.rules
+  pub known : All (All (λ l. Ranges (length s.kinds) l.variable)) rules
+  pub distinct : All Distinct s.rules
   -- the limits
   pub positions : Ranges 24 (length s.kinds)
   pub reports : report_count s.kinds ≤ 12

@@ -1,7 +1,11 @@
+pub mod Bytes
 pub mod Words
 pub mod Lexing
+pub mod Wanted
 pub mod Machine
 pub mod Keeping
+pub mod KeepingOnce
 pub mod Reading
 pub mod Grammar
 pub mod Tables
+pub mod Drafts

@@ -1,5 +1,5 @@
 -- What the text of a sheet means, or which fault it has.
-use Rattle.std.specs.Prelude.{ℕ, cond, List, [], ◌∷◌, ◌++◌, length, is_some, Ok, Err, Result, ◌==◌}
+use Rattle.std.specs.Prelude.{ℕ, cond, List, [], ◌∷◌, ◌++◌, length, is_some, Some, None, Ok, Err, Option, Result, ◌==◌}
 use Rattle.prefix.specs.Prefixes.{kinds_of}
 use Rattle.prefix.specs.declared.kind.Kind.{Kind}
 use Rattle.sheet.specs.Literals.{lookup}
@@ -10,11 +10,11 @@ use Rattle.sheet_text.specs.Words.{Token, Tokens, stop, bad, next, tokens}
 use Rattle.faults.specs.declared.sheet.SheetFault.{SheetFault}
 use Rattle.faults.specs.declared.sheet.SheetFault.TheVariants as fault
 use Rattle.faults.specs.declared.text.TextFault.TheVariants.{Byte}
-use Rattle.sheet_text.specs.declared.reader.Reader.{Reader}
-use Rattle.sheet_text.specs.declared.reader.Section.{Section}
-use Rattle.sheet_text.specs.declared.reader.Section.TheVariants.{Opening, Quantifiers, Rules}
-use Rattle.sheet_text.specs.declared.reader.Taken.{Taken}
-use Rattle.sheet_text.specs.declared.reader.Taken.TheVariants as taken
+use Rattle.sheet_text.specs.declared.state.State.{State}
+use Rattle.sheet_text.specs.declared.state.Section.{Section}
+use Rattle.sheet_text.specs.declared.state.Section.TheVariants.{Opening, Quantifiers, Rules}
+use Rattle.sheet_text.specs.declared.taken.Taken.{Taken}
+use Rattle.sheet_text.specs.declared.taken.Taken.TheVariants as taken
 
 -- A sheet as a text gives it: the form of its rules, the kinds of its positions, the literals of each rule.
 pub record Sheet : Type 0 where
@@ -24,7 +24,7 @@ pub record Sheet : Type 0 where
 
 -- How far a text is read: the reader, the literals of the rule that it is in, and the rules that are over.
 pub record Progress : Type 0 where
-  pub reader : Reader
+  pub reader : State
   pub literals : List Literal
   pub rules : List (List Literal)
 
@@ -33,14 +33,14 @@ abbrev pub begin : Progress
 begin = record { reader = start; literals = []; rules = [] }
 
 -- What a word gives goes into the rule, where no literal has its position yet (5), or ends it.
-abbrev pub collected : Progress → Reader → Taken → Result Progress SheetFault
-collected s m taken.Nothing = Ok (record { reader = m; literals = s.literals; rules = s.rules })
-collected s m (taken.Literal l p) =
+abbrev pub collected : Progress → State → Option Taken → Result Progress SheetFault
+collected s m None = Ok (record { reader = m; literals = s.literals; rules = s.rules })
+collected s m (Some (taken.Literal l p)) =
     cond (is_some (lookup s.literals l.position)) (Err (fault.Repeated p)) (Ok (record { reader = m; literals = s.literals ++ l ∷ []; rules = s.rules }))
-collected s m taken.Rule = Ok (record { reader = m; literals = []; rules = s.rules ++ s.literals ∷ [] })
+collected s m (Some taken.Rule) = Ok (record { reader = m; literals = []; rules = s.rules ++ s.literals ∷ [] })
 
 -- What a step of the reader makes of it, and so what a word does.
-abbrev pub given : Progress → Result (Reader × Taken) SheetFault → Result Progress SheetFault
+abbrev pub given : Progress → Result (State × Option Taken) SheetFault → Result Progress SheetFault
 given s (Ok p) = collected s p.0 p.1
 given s (Err f) = Err f
 
@@ -59,10 +59,10 @@ run s (bad p) = Err (fault.Text (Byte p))
 run s (next w ts) = onward (advance s w) (λ u. run u ts)
 
 -- At the end there has been a header (3), every variable is named (6), and the rules are all there (7).
-abbrev pub complete : ℕ → Reader → Result (Unit {0}) SheetFault
+abbrev pub complete : ℕ → State → Result (Unit {0}) SheetFault
 complete p m = cond (m.named == m.length) (cond (m.read == m.rules) (Ok tt) (Err (fault.RuleCount p))) (Err (fault.Unnamed p))
 
-abbrev pub finished : ℕ → Section → Reader → Result (Unit {0}) SheetFault
+abbrev pub finished : ℕ → Section → State → Result (Unit {0}) SheetFault
 finished p Opening m = Err (fault.Word p)
 finished p Quantifiers m = complete p m
 finished p Rules m = complete p m

@@ -5,10 +5,9 @@ use Rattle.sheet.specs.Literals.{Made}
 use Rattle.sheet.specs.declared.literal.Literal.{Literal}
 use Rattle.sheet.specs.declared.rule.Rule.{Rule}
 use Rattle.sheet_text.specs.Grammar.{Says}
-use Rattle.sheet_text.specs.Reading.{Sheet, Progress}
+use Rattle.sheet_text.specs.Reading.{Sheet}
 use Rattle.faults.specs.declared.sheet.SheetFault.{SheetFault}
 use Rattle.faults.specs.declared.sheet.SheetFault.TheVariants.{TableTooShort}
-use Rattle.sheet_text.specs.declared.reader.Reader.{Reader}
 use Rattle.sheet_text.specs.declared.reading.Reading.{Reading}
 
 -- Each rule has just the literals of the list at its place.
@@ -38,17 +37,3 @@ Outcome (Err g) (Err f) before after = (f ≡ g) × (after ≡ before)
 abbrev pub Meant : List ℕ → Result Reading SheetFault → List Rule → List Rule → Type 0
 Meant t (Ok reading) before after = (s : Sheet) × Says t s × Holds s reading before after
 Meant t (Err f) before after = (after ≡ before) × ((s : Sheet) → Says t s → length before < length s.rules)
-
--- The words were all read, and the rules collected, or the first fault was found.
-pub record Collected (s : Progress) (m : Reader) (table : List Rule) : Type 0 where
-  pub reader : m ≡ s.reader
-  pub count : m.read ≡ length s.rules
-  pub few : m.read ≤ 256
-  pub rules : MadeOf s.rules (take (length s.rules) table)
-
--- What reading all words gives, by what the text gives.
-abbrev pub Passed : Result Progress SheetFault → Result Reader SheetFault → List Rule → Type 0
-Passed (Ok s) (Ok m) rules = Collected s m rules
-Passed (Ok s) (Err f) rules = ⊥
-Passed (Err g) (Ok m) rules = ⊥
-Passed (Err g) (Err f) rules = f ≡ g

@@ -1,92 +1,89 @@
 // Cuts a text into words, one at a time.
-ghost use Rattle.std.specs.Prelude.{◌≡◌, ◌+◌, ◌<◌, ◌≤◌, length, OnOk, ◌≢◌, nat_le, slice_index};
-ghost use Rattle.sheet_text.specs.Words.{gap, ended, tokens_from};
-ghost use Rattle.sheet_text.specs.Lexing.{stream, Drew, Scanned};
+ghost use Rattle.std.specs.Prelude.{◌≡◌, ℕ, ◌+◌, ◌<◌, ◌≤◌, ◌≢◌, ◌⊎◌, length, slice_index, MatchOption};
+ghost use Rattle.sheet_text.specs.Bytes.{EachBefore, Space, Inner, Printable, FirstUnprintable};
 
 use crate::word::Word;
 use faults::TextFault;
 
-// The text from `at` on is still to be cut.
+// The text from `at` on is still to be cut; the end of the text ends a line too. The
+// whole text is kept, since each word has its place in it.
 #[derive(Drop)]
 pub(crate) struct Lexer<'a> {
     text: &'a [u8],
     at: usize,
+    ghost within: { at ≤ length text.now + 1 },
 }
 
 impl<'a> Lexer<'a> {
+    ghost use Rattle.std.specs.Prelude.{◌≡◌};
+    ghost use Rattle.sheet_text.specs.Lexing.{stream};
+    ghost use Rattle.sheet_text.specs.Words.{tokens};
+
     pub(crate) fn new(text: &'a [u8]) -> Lexer<'a>
-        ensures text { result.text.now ≡ text.now }
-        ensures at { result.at ≡ 0 }
+        ensures { stream result ≡ tokens text.now }
     {
         Lexer { text, at: 0 }
     }
+}
 
-    // Whether a line is left: the end of the text ends one too.
-    pub(crate) fn goes_on(&self) -> bool
-        ensures { result ≡ nat_le self.now.at (length self.now.text.now) }
-    {
-        self.at <= self.text.len()
-    }
+impl<'a> Iterator for Lexer<'a> {
+    ghost use Rattle.std.specs.Prelude.{◌-◌, ◌+◌, length};
+    ghost use Rattle.std.specs.Iterator.{at_most};
+    ghost use Rattle.sheet_text.specs.Lexing.{Draws};
 
-    // The next word; a byte that no text has is found with the word it stands in.
-    pub(crate) fn next_word(&mut self) -> Result<Word<'a>, TextFault>
-        requires { self.old.at ≤ length self.old.text.now }
-        ensures drew { Drew (stream self.old) result (stream self.new) }
-        ensures text { self.new.text.now ≡ self.old.text.now }
-        ensures moved { OnOk result ((self.old.at < self.new.at) × (self.new.at ≤ length self.old.text.now + 1)) }
-    {
+    // A byte that no text has is found with the word that it stands in.
+    type Item = Result<Word<'a>, TextFault>;
+
+    ghost next_gives = { Draws };
+
+    ghost remaining = { λ l. at_most (length l.text.now + 1 - l.at) };
+
+    fn next(&mut self) -> Option<Result<Word<'a>, TextFault>> {
         let text = self.text;
-        let from = past_spaces(text, self.at);
-        if byte_at(text, from) == b'\n' {
+        if self.at > text.len() {
+            return None;
+        }
+        let from = self.at + spaces(&text[self.at..]);
+        if from == text.len() || text[from] == b'\n' {
             self.at = from + 1;
-            return Ok(Word::LineEnd { place: from });
+            return Some(Ok(Word::LineEnd { place: from }));
         }
-        let end = word_end(text, from)?;
+        let end = from + word_length(&text[from..]);
         self.at = end;
-        Ok(Word::of(&text[from..end], from))
-    }
-}
-
-// The byte at a place; the end of the text ends a line.
-fn byte_at(text: &[u8], place: usize) -> u8
-    requires { place ≤ length text.now }
-    ensures { result ≡ slice_index (ended text.now) place }
-{
-    if place < text.len() {
-        text[place]
-    } else {
-        b'\n'
-    }
-}
-
-// The first place from `at` on that holds no space.
-fn past_spaces(text: &[u8], at: usize) -> usize
-    requires { at ≤ length text.now }
-    ensures within { (result ≤ length text.now) × (at ≤ result) }
-    ensures same { tokens_from text.now gap at ≡ tokens_from text.now gap result }
-    ensures stops { slice_index (ended text.now) result ≢ 32 }
-{
-    let mut i = at;
-    while byte_at(text, i) == b' ' {
-        i += 1;
-    }
-    i
-}
-
-// Where the word ends that begins at `from`.
-fn word_end(text: &[u8], from: usize) -> Result<usize, TextFault>
-    requires { (from ≤ length text.now) × (slice_index (ended text.now) from ≢ 32) × (slice_index (ended text.now) from ≢ 10) }
-    ensures { Scanned text.now from result }
-{
-    let mut i = from;
-    loop {
-        let byte = byte_at(text, i);
-        if byte == b' ' || byte == b'\n' {
-            return Ok(i);
+        let stretch = &text[from..end];
+        if let Some(i) = first_unprintable(stretch) {
+            return Some(Err(TextFault::Byte { place: from + i }));
         }
-        if byte < b' ' || byte > b'~' {
-            return Err(TextFault::Byte { place: i });
-        }
-        i += 1;
+        Some(Ok(Word::of(stretch, from)))
     }
+}
+
+// How many spaces a text begins with.
+fn spaces(text: &[u8]) -> usize
+    ensures within { result ≤ length text.now }
+    ensures before { EachBefore result Space text.now }
+    ensures stops { result < length text.now → slice_index text.now result ≢ 32 }
+{
+    text.iter()
+        .position(|byte| *byte != b' ')
+        .unwrap_or(text.len())
+}
+
+// How far the word goes with which a text begins. (One function for both would take
+// its test as a parameter, and say no more of it than these two chains.)
+fn word_length(text: &[u8]) -> usize
+    ensures within { result ≤ length text.now }
+    ensures before { EachBefore result Inner text.now }
+    ensures stops { result < length text.now → (slice_index text.now result ≡ 32) ⊎ (slice_index text.now result ≡ 10) }
+{
+    text.iter()
+        .position(|byte| *byte == b' ' || *byte == b'\n')
+        .unwrap_or(text.len())
+}
+
+// Where a word has its first byte that no text may have.
+fn first_unprintable(word: &[u8]) -> Option<usize>
+    ensures { MatchOption result (EachBefore (length word.now) Printable word.now) (FirstUnprintable word.now) }
+{
+    word.iter().position(|byte| *byte < b' ' || *byte > b'~')
 }

@@ -6,6 +6,6 @@ use sheet::Form;
 pub struct Reading {
     pub form: Form,
     pub prefix: Prefix,
-    // how many rules stand at the front of the table
+    // how many rules stand at the front of the table, which is the caller's memory
     pub rules: usize,
 }

@@ -1,5 +1,5 @@
 // Words of a sheet's text, which borrow it.
-ghost use Rattle.std.specs.Prelude.{◌≡◌};
+ghost use Rattle.std.specs.Prelude.{◌≡◌, Some};
 ghost use Rattle.sheet_text.specs.Words.{token, sort_word, numeral_of, natural_of, negated, place_of};
 
 // A stretch of the text between spaces, with its place, or the end of a line.
@@ -11,7 +11,8 @@ pub(crate) enum Word<'a> {
     LineEnd { place: usize },
 }
 
-// A number as it stands in the text.
+// A number as it stands in the text. As an `i32` it would be taken apart again at each
+// use, into its sign and its size.
 #[derive(Clone, Copy)]
 pub(crate) struct Number {
     pub(crate) value: u32,
@@ -34,40 +35,36 @@ impl<'a> Word<'a> {
         ensures { result ≡ place_of (token self.entry) }
     {
         match self {
-            Word::Letters { place, .. } => place,
-            Word::Number { place, .. } => place,
-            Word::LineEnd { place } => place,
+            Word::Letters { place, .. } | Word::Number { place, .. } | Word::LineEnd { place } =>
+                place,
         }
     }
 }
 
 // The number that a stretch is, if it is one: a minus stands only before a
 // number other than 0.
+#[tactic(auto, unfolding(crate::specs::Words::numeral_of))]
 fn numeral_of(text: &[u8]) -> Option<Number>
     ensures { result ≡ numeral_of text.now }
 {
-    if text.len() > 0 && text[0] == b'-' {
-        return negated(natural_of(&text[1..]));
-    }
-    match natural_of(text) {
-        Some(value) => Some(Number {
-            value,
+    match text {
+        [b'-', digits @ ..] => negated(natural_of(digits)?),
+        _ => Some(Number {
+            value: natural_of(text)?,
             negative: false,
         }),
-        None => None,
     }
 }
 
-fn negated(natural: Option<u32>) -> Option<Number>
-    ensures { result ≡ negated natural }
+fn negated(value: u32) -> Option<Number>
+    ensures { result ≡ negated (Some value) }
 {
-    match natural {
-        Some(0) => None,
-        Some(value) => Some(Number {
+    match value {
+        0 => None,
+        _ => Some(Number {
             value,
             negative: true,
         }),
-        None => None,
     }
 }
 
@@ -78,18 +75,17 @@ const MOST_DIGITS: usize = 6;
 fn natural_of(text: &[u8]) -> Option<u32>
     ensures { result ≡ natural_of text.now }
 {
-    if text.len() == 0 || text.len() > MOST_DIGITS {
+    if text.is_empty() || text.len() > MOST_DIGITS {
         return None;
     }
     if text[0] == b'0' && text.len() > 1 {
         return None;
     }
-    let mut value: u32 = 0;
+    // a `for`: the closure of a fold would have to know the bound of each part
+    let mut value = 0;
     for byte in text {
-        if *byte < b'0' || *byte > b'9' {
-            return None;
-        }
-        value = value * 10 + u32::from(*byte - b'0');
+        let digit = char::from(*byte).to_digit(10)?;
+        value = value * 10 + digit;
     }
     Some(value)
 }

@@ -1,11 +1,14 @@
 // Quantifier lines: a (reports) or e (replies), one variable or more, then 0.
 ghost use Rattle.std.specs.Prelude.{◌≡◌, ◌≤◌};
 ghost use Rattle.sheet_text.specs.Words.{token};
-ghost use Rattle.sheet_text.specs.Keeping.{Sound, Went};
-ghost use Rattle.sheet_text.specs.Machine.{variable_word, variable_number, reports_with, report_too_many};
+ghost use Rattle.sheet_text.specs.Keeping.{Went};
+ghost use Rattle.sheet_text.specs.declared.state.Section.TheVariants.{Quantifiers};
+ghost use Rattle.sheet_text.specs.Machine.{variable_word, reports_with, report_too_many};
 
-use super::{Mode, Reader};
-use crate::word::{Number, Word};
+use super::Reader;
+use crate::state::Mode;
+use crate::variable::Variable;
+use crate::word::Word;
 use faults::SheetFault;
 use prefix::{Kind, Prefix};
 
@@ -31,64 +34,38 @@ fn report_too_many(reports: u32, kind: Kind) -> bool
 }
 
 impl Reader {
+    // A variable takes the next position; 0 ends the line.
     pub(super) fn variable_word(
         &mut self,
         kind: Kind,
         some: bool,
         word: Word<'_>,
     ) -> Result<(), SheetFault>
-        requires { Sound self.old }
-        ensures { Went (variable_word self.old kind some (token word.entry)) result self.new }
+        requires { self.old.state.section ≡ Quantifiers }
+        ensures { Went self.old.state (variable_word self.old.state kind some (token word.entry)) result self.new.state }
     {
-        match word {
-            Word::Number {
-                number: Number {
-                    value,
-                    negative: false,
-                },
-                place,
-            } => self.variable_number(kind, some, value, place),
-            _ => Err(SheetFault::NoNumber {
-                place: word.place(),
-            }),
-        }
-    }
-
-    // A variable takes the next position; 0 ends the line.
-    fn variable_number(
-        &mut self,
-        kind: Kind,
-        some: bool,
-        value: u32,
-        place: usize,
-    ) -> Result<(), SheetFault>
-        requires { Sound self.old }
-        ensures { Went (variable_number self.old kind some value place) result self.new }
-    {
-        let variable = value as usize;
+        let variable = word.natural()?;
+        let place = word.place();
+        let state = &mut self.state;
         if variable == 0 {
             if !some {
                 return Err(SheetFault::Word { place });
             }
-            self.mode = Mode::LineEnd;
+            state.mode = Mode::LineEnd;
             return Ok(());
         }
-        if variable > self.length {
+        if variable > state.length || report_too_many(state.reports, kind) {
             return Err(SheetFault::Limit { place });
         }
-        if report_too_many(self.reports, kind) {
-            return Err(SheetFault::Limit { place });
-        }
-        let index = variable - 1;
-        let known = self.variables[index].position;
-        if known != 0 {
+        let record = &mut state.variables[variable - 1];
+        if record.is_some() {
             return Err(SheetFault::Repeated { place });
         }
-        let position = self.named + 1;
-        self.named = position;
-        self.reports = reports_with(self.reports, kind, position);
-        self.variables[index].complete(kind, position);
-        self.mode = Mode::Variables { kind, some: true };
+        let position = state.named + 1;
+        *record = Some(Variable { kind, position });
+        state.named = position;
+        state.reports = reports_with(state.reports, kind, position);
+        state.mode = Mode::Variables { kind, some: true };
         Ok(())
     }
 }

@@ -1,60 +1,40 @@
 // Rules: literals, possibly none, then 0; a minus wants off.
+ghost use Rattle.std.specs.Prelude.{◌≡◌};
 ghost use Rattle.sheet_text.specs.Words.{token};
-ghost use Rattle.sheet_text.specs.Keeping.{Sound, Went, Gave};
-ghost use Rattle.sheet_text.specs.Machine.{open_rule, literal_word, literal_number};
+ghost use Rattle.sheet_text.specs.Keeping.{Gave};
+ghost use Rattle.sheet_text.specs.declared.state.Mode.TheVariants.{Literals};
+ghost use Rattle.sheet_text.specs.Machine.{literal_word};
 
-use super::{Mode, Reader, Section, Taken};
-use crate::word::{Number, Word};
+use super::Reader;
+use crate::state::Mode;
+use crate::taken::Taken;
+use crate::word::Word;
 use faults::SheetFault;
 use sheet::Literal;
 
 impl Reader {
-    // At a rule's first word every variable has to be named, and a rule more has
-    // to be wanted.
-    pub(super) fn open_rule(&mut self, place: usize) -> Result<(), SheetFault>
-        ensures { Went (open_rule self.old place) result self.new }
+    pub(super) fn literal_word(&mut self, word: Word<'_>) -> Result<Option<Taken>, SheetFault>
+        requires { self.old.state.mode ≡ Literals }
+        ensures { Gave (literal_word self.old.state (token word.entry)) result self.new.state }
     {
-        if self.named != self.length {
-            return Err(SheetFault::Unnamed { place });
-        }
-        if self.read >= self.rules {
-            return Err(SheetFault::RuleCount { place });
-        }
-        self.section = Section::Rules;
-        self.mode = Mode::Literals;
-        Ok(())
-    }
-
-    pub(super) fn literal_word(&mut self, word: Word<'_>) -> Result<Taken, SheetFault>
-        requires { Sound self.old }
-        ensures { Gave (literal_word self.old (token word.entry)) result self.new }
-    {
-        match word {
-            Word::Number { number, place } => self.literal_number(number, place),
-            _ => Err(SheetFault::NoNumber {
-                place: word.place(),
-            }),
-        }
-    }
-
-    fn literal_number(&mut self, number: Number, place: usize) -> Result<Taken, SheetFault>
-        requires { Sound self.old }
-        ensures { Gave (literal_number self.old number place) result self.new }
-    {
+        let number = word.number()?;
+        let place = word.place();
+        let state = &mut self.state;
         let variable = number.value as usize;
         if variable == 0 {
-            self.read += 1;
-            self.mode = Mode::LineEnd;
-            return Ok(Taken::Rule);
+            state.read += 1;
+            state.mode = Mode::LineEnd;
+            return Ok(Some(Taken::Rule));
         }
-        if variable > self.length {
+        if variable > state.length {
             return Err(SheetFault::Limit { place });
         }
-        let position = self.variables[variable - 1].position;
+        // In a rule every variable is named.
+        let named = state.variables[variable - 1].unwrap();
         let literal = Literal {
-            position,
+            position: named.position,
             wanted: !number.negative,
         };
-        Ok(Taken::Literal { literal, place })
+        Ok(Some(Taken::Literal { literal, place }))
     }
 }

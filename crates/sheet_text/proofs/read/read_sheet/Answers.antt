@@ -3,10 +3,11 @@ use Rattle.sheet_text.proofs.EachOnce.{each-named}
 use Rattle.sheet_text.proofs.TextReads.{read_exactly}
 use Rattle.sheet_text.proofs.read.read_sheet.Goals as goal
 
-pub returns : goal.returns
-returns c = record {
-  outcome = c.read_into.ensures;
-  grammar = read_exactly c.args.text.now;
-  named = each-named c.args.text.now;
-  meant = meant c.args.text.now c.read_into.result c.args.table.now c.read_into.new.table c.read_into.ensures;
-}
+pub returns-clause-grammar : goal.returns-clause-grammar
+returns-clause-grammar c = read_exactly c.args.text.now
+
+pub returns-clause-named : goal.returns-clause-named
+returns-clause-named c = each-named c.args.text.now
+
+pub returns-clause-meant : goal.returns-clause-meant
+returns-clause-meant c = meant c.args.text.now c.read_into.result c.args.table.now c.read_into.new.table c.read_into.ensures

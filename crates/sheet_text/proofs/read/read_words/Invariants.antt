@@ -1,10 +1,8 @@
-use Rattle.std.proofs.Common.{◌+◌, ◌-◌, length}
 use Rattle.sheet_text.proofs.Running.{Going}
 use Rattle.sheet_text.proofs.read.read_words.Given as goal
 
--- The words so far are read, and those left give what the whole text gives.
-abbrev pub invariant-loop-lexer : goal.invariant-loop-lexer
-invariant-loop-lexer l = Going l.text l.lexer l.reader l.rule l.count l.rules
-
-abbrev pub decreases-loop-lexer : goal.decreases-loop-lexer
-decreases-loop-lexer l = length l.text + 1 - l.lexer.at
+abbrev pub invariant-loop-word : goal.invariant-loop-word
+invariant-loop-word l =
+    (goal.iterator-loop-word).can_next l.word-iterator
+    × (goal.iterator-loop-word).is_finite l.word-iterator
+    × Going l.text l.word-iterator l.draft

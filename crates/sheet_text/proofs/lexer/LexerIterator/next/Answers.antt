@@ -1,0 +1,24 @@
+use Rattle.std.proofs.Common.{◌+◌, sym, ap, ◌∙◌, inl, inr, arith}
+use Rattle.sheet_text.specs.Words.{next, gap, tokens_from}
+use Rattle.sheet_text.proofs.Cutting.{over, line_drawn, bad_drawn, word_drawn}
+use Rattle.sheet_text.proofs.lexer.LexerIterator.next.Goals as goal
+use Rattle.sheet_text.proofs.lexer.LexerIterator.next.Goals.{then-from-text-via-then-from-text, then-from-text-via-else-from-text+then-text-from-eq10}
+
+pub returns-then-self-text-clause-steps : goal.returns-then-self-text-clause-steps
+returns-then-self-text-clause-steps c = over _ _ (omega arith)
+
+pub returns-then-from-text-clause-steps : goal.returns-then-from-text-clause-steps
+returns-then-from-text-clause-steps c =
+    line_drawn c.args.self.now.text.now c.args.self.now.at c.spaces.result (omega arith) c.spaces.ensures.before
+    (elim c.then-from-text.branch [ then-from-text-via-then-from-text w ↦ inl w.if-from-text.true | then-from-text-via-else-from-text+then-text-from-eq10 w ↦ inr w.if-text-from-eq10.true ])
+
+pub returns-in-Some-clause-steps : goal.returns-in-Some-clause-steps
+returns-in-Some-clause-steps c =
+    bad_drawn c.args.self.now.text.now c.args.self.now.at c.spaces.result (omega arith) c.spaces.ensures.before c.word_length.result (omega arith)
+    c.word_length.ensures.within c.word_length.ensures.before c.in-Some.i c.in-Some.ensures.0 c.in-Some.ensures.1 c.in-Some.ensures.2
+
+pub returns-clause-steps : goal.returns-clause-steps
+returns-clause-steps c =
+    word_drawn c.args.self.now.text.now c.args.self.now.at c.spaces.result (omega arith) c.spaces.ensures.before c.word_length.result (omega arith)
+    c.word_length.ensures.within c.word_length.ensures.before c.spaces.ensures.stops c.if-text-from-eq10.false c.word_length.ensures.stops c.in_default.ensures
+    ∙ ap (λ w. next w (tokens_from c.args.self.now.text.now gap (c.args.self.now.at + c.spaces.result + c.word_length.result))) (sym c.of.ensures)
