@@ -1,7 +1,7 @@
 pub mod Joining
 pub mod Runs
 pub mod Rising
-pub mod Appending
+pub mod Parts
 pub mod Quantified
 pub mod Ruled
 pub mod WrittenWords

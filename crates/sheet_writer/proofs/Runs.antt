@@ -1,10 +1,12 @@
 -- The quantifier lines of a sheet name the variables 1 to n in order, each with its kind.
-use Rattle.std.proofs.Common.{◌≡◌, ℕ, zero, suc, ◌+◌, ◌<◌, ◌≤◌, eqb, List, [], ◌∷◌, ◌++◌, map, length, refl, ap, ◌∙◌, arith}
-use Rattle.std.specs.List.{AllByRecursion}
+use Rattle.std.proofs.Common.{All, ◌≡◌, ℕ, zero, suc, ◌+◌, ◌<◌, ◌≤◌, eqb, List, [], ◌∷◌, ◌++◌, map, length, refl, ap, ◌∙◌, arith}
+use Rattle.std.proofs.lemmas.List.Elements.{All-nil, All-cons}
 use Rattle.std.proofs.lemmas.Bool.{cond-true, cond-false, eq-eqb, ne_eqb}
 use Rattle.prefix.specs.declared.kind.Kind.{Kind}
 use Rattle.prefix.specs.declared.kind.Kind.TheVariants.{Report, Reply}
 use Rattle.sheet_text.specs.Grammar.{Quantifier, Variable, variable, order, one_more, position_in, Once, Ranges}
+use Rattle.sheet_text.proofs.Naming.{Ranged}
+use Rattle.sheet_text.proofs.SheetReads.{SomeVariable, range_front}
 use Rattle.sheet_writer.specs.Writing.{run_on, runs_after, runs}
 
 -- The variables from v on, one for each of the kinds.
@@ -23,27 +25,28 @@ pub order-runs : (v : ℕ) (ks : List Kind) → order (runs v ks) ≡ variables_
 order-runs v [] = refl
 order-runs v (k ∷ ks) = ap (λ (x : List Variable). variable k v ∷ x) (order_after k (suc v) ks)
 
-abbrev SomeVariable : Quantifier → Type 0
-SomeVariable q = 1 ≤ length q.variables
+-- The run that begins at v.
+abbrev run : Kind → ℕ → List Kind → Quantifier
+run k v ks = record { kind = k; variables = v ∷ run_on k (suc v) ks }
 
-some_after : (k : Kind) (v : ℕ) (ks : List Kind) → AllByRecursion SomeVariable (runs_after k v ks)
-some_after k v [] = tt
+some_after : (k : Kind) (v : ℕ) (ks : List Kind) → All SomeVariable (runs_after k v ks)
+some_after k v [] = All-nil SomeVariable
 some_after Report v (Report ∷ ks) = some_after Report (suc v) ks
-some_after Report v (Reply ∷ ks) = (omega arith, some_after Reply (suc v) ks)
-some_after Reply v (Report ∷ ks) = (omega arith, some_after Report (suc v) ks)
+some_after Report v (Reply ∷ ks) = All-cons SomeVariable (run Reply v ks) (runs_after Reply (suc v) ks) (omega arith) (some_after Reply (suc v) ks)
+some_after Reply v (Report ∷ ks) = All-cons SomeVariable (run Report v ks) (runs_after Report (suc v) ks) (omega arith) (some_after Report (suc v) ks)
 some_after Reply v (Reply ∷ ks) = some_after Reply (suc v) ks
 
-pub some_runs : (v : ℕ) (ks : List Kind) → AllByRecursion (λ q. 1 ≤ length q.variables) (runs v ks)
-some_runs v [] = tt
-some_runs v (k ∷ ks) = (omega arith, some_after k (suc v) ks)
+pub some_runs : (v : ℕ) (ks : List Kind) → All SomeVariable (runs v ks)
+some_runs v [] = All-nil SomeVariable
+some_runs v (k ∷ ks) = All-cons SomeVariable (run k v ks) (runs_after k (suc v) ks) (omega arith) (some_after k (suc v) ks)
 
 pub kinds_from : (v : ℕ) (ks : List Kind) → ks ≡ map (λ q. q.kind) (variables_from v ks)
 kinds_from v [] = refl
 kinds_from v (k ∷ ks) = ap (λ (x : List Kind). k ∷ x) (kinds_from (suc v) ks)
 
-pub named_from : (n v : ℕ) (ks : List Kind) → 1 ≤ v → v + length ks ≤ suc n → AllByRecursion (λ q. Ranges n q.name) (variables_from v ks)
-named_from n v [] low high = tt
-named_from n v (k ∷ ks) low high = ((low, omega arith), named_from n (suc v) ks (omega arith) (omega arith))
+pub named_from : (n v : ℕ) (ks : List Kind) → 1 ≤ v → v + length ks ≤ suc n → All (Ranged n) (variables_from v ks)
+named_from n v [] low high = All-nil (Ranged n)
+named_from n v (k ∷ ks) low high = All-cons (Ranged n) (variable k v) (variables_from (suc v) ks) (low, omega arith) (named_from n (suc v) ks (omega arith) (omega arith))
 
 absent_below : (v w : ℕ) (ks : List Kind) → w < v → position_in (variables_from v ks) w ≡ 0
 absent_below v w [] h = refl
@@ -62,12 +65,11 @@ place_from v w (suc i) (k ∷ ks) e h =
     cond-false (eqb w v) 1 (one_more (position_in (variables_from (suc v) ks) w)) (ne_eqb w v (λ d. omega arith))
     ∙ ap one_more (place_from (suc v) w i ks (omega arith) (omega arith))
 
--- The variables of each quantifier line are among those that the lines name.
-split_named : (n : ℕ) (k : Kind) (vs : List ℕ) (rest : List Variable) → AllByRecursion (λ q. Ranges n q.name) (map (variable k) vs ++ rest)
-    → AllByRecursion (Ranges n) vs × AllByRecursion (λ q. Ranges n q.name) rest
-split_named n k [] rest h = (tt, h)
-split_named n k (v ∷ vs) rest h = let s = split_named n k vs rest h.1 in ((h.0, s.0), s.1)
+-- A line's variables are from 1 to n.
+abbrev pub VariablesIn : ℕ → Quantifier → Type 0
+VariablesIn n q = All (Ranges n) q.variables
 
-pub named-lines : (n : ℕ) (qs : List Quantifier) → AllByRecursion (λ q. Ranges n q.name) (order qs) → AllByRecursion (λ q. AllByRecursion (Ranges n) q.variables) qs
-named-lines n [] h = tt
-named-lines n (q ∷ qs) h = let s = split_named n q.kind q.variables (order qs) h in (s.0, named-lines n qs s.1)
+-- The variables of each quantifier line are among those that the lines name.
+pub named-lines : (n : ℕ) (qs : List Quantifier) → All (Ranged n) (order qs) → All (VariablesIn n) qs
+named-lines n [] h = All-nil (VariablesIn n)
+named-lines n (q ∷ qs) h = let s = range_front n q.kind q.variables (order qs) h in All-cons (VariablesIn n) q qs s.0 (named-lines n qs s.1)

@@ -1,7 +1,6 @@
 -- The text that is written says the sheet.
-use Rattle.std.proofs.Common.{◌≡◌, ℕ, zero, suc, ◌≤◌, List, [], ◌∷◌, map, length, take, sym, refl, ap, ◌∙◌, subst, arith}
-use Rattle.std.specs.List.{AllByRecursion}
-use Rattle.std.proofs.ByRecursion.{All-append, All-map, All-weaker}
+use Rattle.std.proofs.Common.{All, ◌≡◌, ℕ, zero, suc, ◌≤◌, List, [], ◌∷◌, ◌++◌, map, length, get_or, take, sym, refl, ap, ◌∙◌, subst, arith}
+use Rattle.std.proofs.lemmas.List.Elements.{All-nil, All-cons, All-head, All-tail, All-append, All-map, All-weaker}
 use Rattle.std.proofs.lemmas.List.{length-map, length-take}
 use Rattle.prefix.proofs.Positions.{length-kinds, count-whole}
 use Rattle.prefix.specs.Kinds.{report_count}
@@ -12,25 +11,23 @@ use Rattle.sheet.specs.Literals.{Distinct}
 use Rattle.sheet.specs.declared.form.Form.{Form}
 use Rattle.sheet.specs.declared.literal.Literal.{Literal}
 use Rattle.sheet.specs.declared.rule.Rule.{Rule}
-use Rattle.sheet_text.specs.Grammar.{Quantifier, Signed, Variable, order, position_in, Once, placed, Ranges, quantifier_line, rule_line, Says}
+use Rattle.sheet_text.specs.Grammar.{Comment, header_line, Variable, order, position_in, Once, placed, Ranges, quantifier_line, rule_line, Says}
 use Rattle.sheet_text.specs.Reading.{Sheet}
 use Rattle.sheet_writer.specs.Writing.{rising, sheet_of_rules, runs, signed, quantifier_lines, rule_lines, sheet_lines, text_of, written}
+use Rattle.sheet_text.proofs.Naming.{Ranged}
+use Rattle.sheet_text.proofs.RuleReads.{Known}
 use Rattle.sheet_writer.proofs.Joining.{IsLine, lines-joined, allowed-joined}
-use Rattle.sheet_writer.proofs.Rising.{rising-within, rising-distinct}
-use Rattle.sheet_writer.proofs.Runs.{variables_from, order-runs, some_runs, kinds_from, named_from, once_from, place_from, named-lines}
+use Rattle.sheet_writer.proofs.Rising.{Within, rising-within, rising-distinct}
+use Rattle.sheet_writer.proofs.Runs.{VariablesIn, variables_from, order-runs, some_runs, kinds_from, named_from, once_from, place_from, named-lines}
 use Rattle.sheet_writer.proofs.WrittenWords.{line_header, line_quantifier, line_rule}
-
--- A literal at a position of the sheet.
-abbrev Within : ℕ → Literal → Type 0
-Within n l = Ranges n l.position
 
 -- What a sheet keeps to, so that its text says it.
 record Proper (s : Sheet) : Type 0 where
   positions : Ranges 24 (length s.kinds)
   reports : report_count s.kinds ≤ 12
   few : length s.rules ≤ 256
-  within : AllByRecursion (AllByRecursion (Within (length s.kinds))) s.rules
-  distinct : AllByRecursion Distinct s.rules
+  within : All (All (Within (length s.kinds))) s.rules
+  distinct : All Distinct s.rules
 
 variable_place : (ks : List Kind) (v : ℕ) → Ranges (length ks) v → position_in (variables_from 1 ks) v ≡ v
 variable_place ks zero h = absurd (omega arith)
@@ -39,40 +36,38 @@ variable_place ks (suc i) h = place_from 1 (suc i) i ks (omega arith) (omega ari
 literal_placed : (ks : List Kind) (l : Literal) → Within (length ks) l → l ≡ placed (variables_from 1 ks) (signed l)
 literal_placed ks l h = ap (λ (p : ℕ). record { position = p; wanted = l.wanted }) (sym (variable_place ks l.position h))
 
-rule_placed : (ks : List Kind) (ls : List Literal) → AllByRecursion (Within (length ks)) ls → ls ≡ map (placed (variables_from 1 ks)) (map signed ls)
+rule_placed : (ks : List Kind) (ls : List Literal) → All (Within (length ks)) ls → ls ≡ map (placed (variables_from 1 ks)) (map signed ls)
 rule_placed ks [] h = refl
 rule_placed ks (l ∷ ls) h =
-    ap (λ (x : Literal). x ∷ ls) (literal_placed ks l h.0)
-    ∙ ap (λ (x : List Literal). placed (variables_from 1 ks) (signed l) ∷ x) (rule_placed ks ls h.1)
+    ap (λ (x : Literal). x ∷ ls) (literal_placed ks l (All-head (Within (length ks)) l ls h))
+    ∙ ap (λ (x : List Literal). placed (variables_from 1 ks) (signed l) ∷ x) (rule_placed ks ls (All-tail (Within (length ks)) l ls h))
 
-rules-placed : (ks : List Kind) (rules : List (List Literal)) → AllByRecursion (AllByRecursion (Within (length ks))) rules
+rules-placed : (ks : List Kind) (rules : List (List Literal)) → All (All (Within (length ks))) rules
     → rules ≡ map (map (placed (variables_from 1 ks))) (map (map signed) rules)
 rules-placed ks [] h = refl
 rules-placed ks (ls ∷ rules) h =
-    ap (λ (x : List Literal). x ∷ rules) (rule_placed ks ls h.0)
-    ∙ ap (λ (x : List (List Literal)). map (placed (variables_from 1 ks)) (map signed ls) ∷ x) (rules-placed ks rules h.1)
+    ap (λ (x : List Literal). x ∷ rules) (rule_placed ks ls (All-head (All (Within (length ks))) ls rules h))
+    ∙ ap (λ (x : List (List Literal)). map (placed (variables_from 1 ks)) (map signed ls) ∷ x) (rules-placed ks rules (All-tail (All (Within (length ks))) ls rules h))
 
-known-rules : (n : ℕ) (rules : List (List Literal)) → AllByRecursion (AllByRecursion (Within n)) rules → AllByRecursion (AllByRecursion (λ l. Ranges n l.variable)) (map (map signed) rules)
+known-rules : (n : ℕ) (rules : List (List Literal)) → All (All (Within n)) rules → All (All (Known n)) (map (map signed) rules)
 known-rules n rules h =
-    All-map (AllByRecursion (λ (l : Signed). Ranges n l.variable)) (map signed) rules
-    (All-weaker (AllByRecursion (Within n)) (λ ls. AllByRecursion (λ (l : Signed). Ranges n l.variable) (map signed ls)) (λ ls w. All-map (λ (l : Signed). Ranges n l.variable) signed ls w) rules h)
+    All-map (All (Known n)) (map signed) rules
+    (All-weaker (All (Within n)) (λ ls. All (Known n) (map signed ls)) (λ ls w. All-map (Known n) signed ls w) rules h)
 
-named-runs : (ks : List Kind) → AllByRecursion (λ q. Ranges (length ks) q.name) (order (runs 1 ks))
-named-runs ks = subst (AllByRecursion (λ (q : Variable). Ranges (length ks) q.name)) (sym (order-runs 1 ks)) (named_from (length ks) 1 ks (omega arith) (omega arith))
+named-runs : (ks : List Kind) → All (Ranged (length ks)) (order (runs 1 ks))
+named-runs ks = subst (All (Ranged (length ks))) (sym (order-runs 1 ks)) (named_from (length ks) 1 ks (omega arith) (omega arith))
 
-lines_proper : (s : Sheet) → Proper s → AllByRecursion IsLine (sheet_lines s)
+lines_proper : (s : Sheet) → Proper s → All IsLine (sheet_lines s)
 lines_proper s p =
     let n = length s.kinds in
-    let small : n ≤ 24 = p.positions.1 in (
-      line_header s.form n (length s.rules) small p.few,
-      All-append IsLine (quantifier_lines s.kinds) (rule_lines s.rules)
-          (All-map IsLine quantifier_line (runs 1 s.kinds)
-          (All-weaker (λ (q : Quantifier). AllByRecursion (Ranges n) q.variables) (λ q. IsLine (quantifier_line q)) (λ q h. line_quantifier n q small h) (runs 1 s.kinds)
-          (named-lines n (runs 1 s.kinds) (named-runs s.kinds))))
-          (All-map IsLine rule_line (map (map signed) s.rules)
-          (All-weaker (AllByRecursion (λ (l : Signed). Ranges n l.variable)) (λ ls. IsLine (rule_line ls)) (λ ls h. line_rule n ls small h) (map (map signed) s.rules)
-          (known-rules n s.rules p.within))),
-    )
+    let small : n ≤ 24 = p.positions.1 in
+    All-cons IsLine (header_line s.form n (length s.rules)) (quantifier_lines s.kinds ++ rule_lines s.rules)
+    (line_header s.form n (length s.rules) small p.few)
+    (All-append IsLine (quantifier_lines s.kinds) (rule_lines s.rules)
+    (All-map IsLine quantifier_line (runs 1 s.kinds)
+    (All-weaker (VariablesIn n) (λ q. IsLine (quantifier_line q)) (λ q h. line_quantifier n q small h) (runs 1 s.kinds) (named-lines n (runs 1 s.kinds) (named-runs s.kinds))))
+    (All-map IsLine rule_line (map (map signed) s.rules)
+    (All-weaker (All (Known n)) (λ ls. IsLine (rule_line ls)) (λ ls h. line_rule n ls small h) (map (map signed) s.rules) (known-rules n s.rules p.within))))
 
 proper_says : (s : Sheet) → Proper s → Says (text_of s) s
 proper_says s p =
@@ -83,7 +78,7 @@ proper_says s p =
       rules = map (map signed) s.rules;
       allowed = allowed-joined (sheet_lines s) (lines_proper s p);
       lines = lines-joined (sheet_lines s) (lines_proper s p);
-      commented = tt;
+      commented = All-nil Comment;
       some = some_runs 1 ks;
       kinds = kinds_from 1 ks ∙ ap (map (λ (q : Variable). q.kind)) (sym (order-runs 1 ks));
       named = named-runs ks;
@@ -96,9 +91,8 @@ proper_says s p =
       few = p.few;
     }
 
-all_of : {A B : Type 0} (P : B → Type 0) (f : A → B) → ((x : A) → P (f x)) → (xs : List A) → AllByRecursion P (map f xs)
-all_of P f h [] = tt
-all_of P f h (x ∷ xs) = (h x, all_of P f h xs)
+all_of : {A B : Type 0} (P : B → Type 0) (f : A → B) → ((x : A) → P (f x)) → (xs : List A) → All P (map f xs)
+all_of P f h xs = All-map P f xs (λ k d lt. h (get_or xs k d))
 
 proper_rules : (f : Form) (p : Prefix) (rs : List Rule) → Proper (sheet_of_rules f p rs)
 proper_rules f p rs =
@@ -108,8 +102,8 @@ proper_rules f p rs =
       reports = subst (λ (x : ℕ). x ≤ 12) (sym (count-whole p.length p.reports p.ok.2)) p.ok.3;
       few = simp (length-map, length-take) (omega arith);
       within =
-          subst (λ (x : ℕ). AllByRecursion (AllByRecursion (Within x)) (map (λ r. rising r p.length) (take 256 rs))) (sym n)
-          (all_of (AllByRecursion (Within p.length)) (λ r. rising r p.length) (λ r. rising-within r p.length) (take 256 rs));
+          subst (λ (x : ℕ). All (All (Within x)) (map (λ r. rising r p.length) (take 256 rs))) (sym n)
+          (all_of (All (Within p.length)) (λ r. rising r p.length) (λ r. rising-within r p.length) (take 256 rs));
       distinct = all_of Distinct (λ r. rising r p.length) (λ r. rising-distinct r p.length p.ok.1) (take 256 rs);
     }
 

@@ -1,7 +1,7 @@
 -- The text that a sheet is written as.
-use Rattle.std.specs.Prelude.{ℕ, suc, Bool, true, false, cond, List, [], ◌∷◌, ◌++◌, map, reverse, length, take, Some, None, codes, Option}
+use Rattle.std.specs.Prelude.{ℕ, suc, Bool, true, false, cond, List, [], ◌∷◌, ◌++◌, map, reverse, length, take, Some, None, Option}
 use Rattle.std.specs.List.{flat_map}
-use Rattle.prefix.specs.Prefixes.{kind_of, kinds}
+use Rattle.prefix.specs.Prefixes.{kinds}
 use Rattle.prefix.specs.declared.kind.Kind.{Kind}
 use Rattle.prefix.specs.declared.kind.Kind.TheVariants.{Report, Reply}
 use Rattle.prefix.specs.declared.prefix.Prefix.{Prefix}
@@ -9,7 +9,7 @@ use Rattle.sheet.specs.Rules.{literals}
 use Rattle.sheet.specs.declared.form.Form.{Form}
 use Rattle.sheet.specs.declared.literal.Literal.{Literal}
 use Rattle.sheet.specs.declared.rule.Rule.{Rule}
-use Rattle.sheet_text.specs.Grammar.{Quantifier, Signed, header_line, quantifier_line, kind_word, signed_word, rule_line}
+use Rattle.sheet_text.specs.Grammar.{Quantifier, Signed, header_line, quantifier_line, signed_word, rule_line}
 use Rattle.sheet_text.specs.Reading.{Sheet}
 
 -- The literals of a rule at the positions 1 to n, in rising position; one past n counts as absent.
@@ -70,10 +70,6 @@ text_of s = flat_map line_text (sheet_lines s)
 
 abbrev pub written : Form → Prefix → List Rule → List ℕ
 written f p rs = text_of (sheet_of_rules f p rs)
-
--- What stands between two variables that follow each other, by whether each is a report: where the kind changes, a line ends and the next begins.
-abbrev pub between : Bool → Bool → List ℕ
-between was is = cond (same_kind (kind_of was) (kind_of is)) [] (codes " 0\n" ++ kind_word (kind_of is))
 
 -- A literal in its rule's line, by the value that the rule wants at its position.
 abbrev pub literal_text : ℕ → Option Bool → List ℕ
