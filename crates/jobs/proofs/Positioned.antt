@@ -1,44 +1,64 @@
--- One byte more before a position.
-use Rattle.std.proofs.Common.{◌≡◌, ℕ, ◌+◌, eqb, List, [], ◌∷◌, ◌++◌, sym, refl, ap, ◌∙◌, inl, inr, arith}
-use Rattle.std.proofs.ByRecursion.{All-push}
-use Rattle.std.proofs.lemmas.List.{append_assoc, append-nil, length_push}
-use Rattle.std.proofs.lemmas.Bool.{cond-false, ne_eqb}
-use Rattle.std.specs.List.{AllByRecursion}
-use Rattle.jobs.specs.Positions.{line_end, line_ends, EndsAt}
+-- The position after some bytes, by what stands at their end.
+use Rattle.std.proofs.Common.{◌≡◌, ℕ, ◌+◌, Bool, true, false, not, cond, eqb, List, [], ◌∷◌, ◌++◌, length, reverse, sym, refl, ap, ◌∙◌, subst, inl, inr, arith}
+use mathlib.Core.List.{reverse-cons}
+use Rattle.std.specs.List.{prefix_len, take_while}
+use Rattle.std.proofs.lemmas.List.Elements.{All-nil, All-push}
+use Rattle.std.proofs.lemmas.Bool.{eqb-true, eqb-false}
+use Rattle.std.proofs.lemmas.List.{append_assoc, append-nil, length_push, reverse-reverse}
+use Rattle.std.proofs.lemmas.List.Sums.{sum_by-append}
+use Rattle.std.proofs.lemmas.List.Folds.{length-prefix_len}
+use Rattle.jobs.specs.Positions.{line_ends, EndsAt}
 
-pub ends_none : EndsAt [] (record { line = 1; column = 1 })
-ends_none = record { lines = []; part = []; parts = refl; whole = inl refl; inside = tt; line = refl; column = refl }
+abbrev line_end : ℕ → ℕ
+line_end b = cond (eqb b 10) 1 0
 
-ends_append : (xs ys : List ℕ) → line_ends (xs ++ ys) ≡ line_ends xs + line_ends ys
-ends_append [] ys = omega arith
-ends_append (x ∷ xs) ys = omega (arith, ends_append xs ys)
+line_ends-push : (bs : List ℕ) (b : ℕ) → line_ends (bs ++ b ∷ []) ≡ line_ends bs + line_end b
+line_ends-push bs b = omega (arith, sum_by-append line_end bs (b ∷ []))
 
-no_ends : (xs : List ℕ) → AllByRecursion (λ b. b ≡ 10 → ⊥) xs → line_ends xs ≡ 0
-no_ends [] h = refl
-no_ends (x ∷ xs) h = let z : line_end x ≡ 0 = cond-false (eqb x 10) 1 0 (ne_eqb x 10 h.0) in omega (arith, no_ends xs h.1)
+-- The bytes since the last line end, counted from the last byte.
+abbrev since : List ℕ → ℕ
+since rs = prefix_len (λ b. not (eqb b 10)) rs
 
-one_end : line_ends (10 ∷ []) ≡ 1
-one_end = refl
+module _ (bs : List ℕ) (b column : ℕ) where
+  ends_line : eqb b 10 ≡ true → EndsAt (bs ++ b ∷ []) (record { line = line_ends (bs ++ b ∷ []) + 1; column = 1 })
+  ends_line is =
+      let all : bs ++ b ∷ [] ≡ bs ++ 10 ∷ [] = ap (λ (x : ℕ). bs ++ x ∷ []) (eqb-true b 10 is) in
+      record {
+        lines = bs ++ 10 ∷ [];
+        part = [];
+        parts = all ∙ sym (append-nil (bs ++ 10 ∷ []));
+        whole = inr (bs, refl);
+        inside = All-nil (λ b. b ≡ 10 → ⊥);
+        line = omega (arith, ap line_ends all);
+        column = refl;
+      }
 
-module _ (bs : List ℕ) (b line column : ℕ) (h : EndsAt bs (record { line = line; column = column })) where
-  pub ends_line : b ≡ 10 → EndsAt (bs ++ b ∷ []) (record { line = line + 1; column = 1 })
-  ends_line is = record {
-    lines = bs ++ 10 ∷ [];
-    part = [];
-    parts = ap (λ (x : ℕ). bs ++ x ∷ []) is ∙ sym (append-nil (bs ++ 10 ∷ []));
-    whole = inr (bs, refl);
-    inside = tt;
-    line = omega (arith, h.line, ends_append bs (10 ∷ []), one_end, ap line_ends h.parts, ends_append h.lines h.part, no_ends h.part h.inside);
-    column = refl;
-  }
+  ends_byte : eqb b 10 ≡ false → EndsAt bs (record { line = line_ends bs + 1; column = column }) → EndsAt (bs ++ b ∷ []) (record { line = line_ends (bs ++ b ∷ []) + 1; column = column + 1 })
+  ends_byte other h =
+      let none : line_end b ≡ 0 = ap (λ (t : Bool). cond t 1 0) other in
+      record {
+        lines = h.lines;
+        part = h.part ++ b ∷ [];
+        parts = ap (λ (x : List ℕ). x ++ b ∷ []) h.parts ∙ append_assoc h.lines h.part (b ∷ []);
+        whole = h.whole;
+        inside = All-push (λ b. b ≡ 10 → ⊥) h.part b h.inside (eqb-false b 10 other);
+        line = omega (arith, h.line, line_ends-push bs b, none);
+        column = omega (arith, h.column, length_push h.part b);
+      }
 
-  pub ends_byte : (b ≡ 10 → ⊥) → EndsAt (bs ++ b ∷ []) (record { line = line; column = column + 1 })
-  ends_byte other = record {
-    lines = h.lines;
-    part = h.part ++ b ∷ [];
-    parts = ap (λ (x : List ℕ). x ++ b ∷ []) h.parts ∙ append_assoc h.lines h.part (b ∷ []);
-    whole = h.whole;
-    inside = All-push (λ b. b ≡ 10 → ⊥) h.part b h.inside other;
-    line = h.line;
-    column = omega (arith, h.column, length_push h.part b);
-  }
+ends_push : (bs : List ℕ) (b n : ℕ) (t : Bool) → eqb b 10 ≡ t → EndsAt bs (record { line = line_ends bs + 1; column = n + 1 })
+    → EndsAt (bs ++ b ∷ []) (record { line = line_ends (bs ++ b ∷ []) + 1; column = cond (not t) (1 + n) 0 + 1 })
+ends_push bs b n true e h = ends_line bs b 0 e
+ends_push bs b n false e h = let more : 1 + n ≡ n + 1 = omega arith in rw more (ends_byte bs b (n + 1) e h)
+
+ends_reversed : (rs : List ℕ) → EndsAt (reverse rs) (record { line = line_ends (reverse rs) + 1; column = since rs + 1 })
+ends_reversed [] = record { lines = []; part = []; parts = refl; whole = inl refl; inside = All-nil (λ b. b ≡ 10 → ⊥); line = refl; column = refl }
+ends_reversed (b ∷ rs) =
+    subst (λ (bs : List ℕ). EndsAt bs (record { line = line_ends bs + 1; column = since (b ∷ rs) + 1 })) (sym (reverse-cons b rs))
+    (ends_push (reverse rs) b (since rs) (eqb b 10) refl (ends_reversed rs))
+
+pub ends_at : (bs : List ℕ) (lines bytes : ℕ) → lines ≡ line_ends bs → bytes ≡ length (take_while (λ b. not (eqb b 10)) (reverse bs))
+    → EndsAt bs (record { line = lines + 1; column = bytes + 1 })
+ends_at bs lines bytes l n =
+    let c : bytes ≡ since (reverse bs) = n ∙ length-prefix_len (λ b. not (eqb b 10)) (reverse bs) in
+    rw (l, c) (subst (λ (x : List ℕ). EndsAt x (record { line = line_ends x + 1; column = since (reverse bs) + 1 })) (reverse-reverse bs) (ends_reversed (reverse bs)))

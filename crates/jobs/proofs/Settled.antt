@@ -1,5 +1,5 @@
 -- What is read into a table that is long enough.
-use Rattle.std.proofs.Common.{◌≡◌, ℕ, ◌-◌, List, length, take, Ok, Err, Result, sym, refl, ap, ◌∙◌, arith}
+use Rattle.std.proofs.Common.{◌≡◌, ℕ, List, length, take, Ok, Err, Result, sym, refl, ap, ◌∙◌, arith}
 use Rattle.std.proofs.lemmas.List.{take_all, length-take}
 use Rattle.sheet.specs.Rules.{rules_kept}
 use Rattle.sheet.specs.declared.rule.Rule.{Rule}
@@ -23,13 +23,13 @@ unsaid t f before after all says h = by (read_text t) refl h
 
 -- The policies that are counted are those of the sheet that the text says.
 pub said : (t : List ℕ) (reading : Reading) (before after : List Rule) (policies : PolicyCount) → Meant t (Ok reading) before after
-    → policies ≡ worth_of count (rules_kept reading.form reading.prefix.length (take 256 (take (reading.rules - 0) after))) reading.prefix → Counted t (record { policies = policies })
+    → policies ≡ worth_of count (rules_kept reading.form reading.prefix.length (take 256 (take reading.rules after))) reading.prefix → Counted t (record { policies = policies })
 said t reading before after policies h e =
     let s = h.0 in
     let holds = h.2 in
-    let front : take 256 (take (reading.rules - 0) after) ≡ take (length s.rules) after =
-    take_all 256 (take (reading.rules - 0) after) (simp length-take (omega (arith, h.1.few, holds.count)))
-    ∙ ap (λ (n : ℕ). take n after) (let z : reading.rules - 0 ≡ length s.rules = omega (arith, holds.count) in z) in
+    let front : take 256 (take reading.rules after) ≡ take (length s.rules) after =
+    take_all 256 (take reading.rules after) (simp length-take (omega (arith, h.1.few, holds.count)))
+    ∙ ap (λ (n : ℕ). take n after) holds.count in
     record {
       sheet = s;
       prefix = reading.prefix;

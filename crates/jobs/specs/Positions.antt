@@ -1,15 +1,11 @@
 -- Lines and columns of a text.
-use Rattle.std.specs.Prelude.{◌≡◌, ℕ, ◌+◌, cond, ◌⊎◌, List, [], ◌∷◌, ◌++◌, length, ◌==◌, ◌≢◌}
-use Rattle.std.specs.List.{AllByRecursion}
+use Rattle.std.specs.Prelude.{All, ◌≡◌, ℕ, ◌+◌, ◌⊎◌, List, [], ◌∷◌, ◌++◌, length, codes, decimal, ◌==◌, ◌≢◌}
+use Rattle.std.specs.List.{count_by}
 use Rattle.jobs.specs.declared.position.TextPosition.{TextPosition}
 
--- How many line ends (byte 10) a byte is, and a list of bytes has.
-abbrev pub line_end : ℕ → ℕ
-line_end b = cond (b == 10) 1 0
-
+-- How many line ends (byte 10) a list of bytes has.
 abbrev pub line_ends : List ℕ → ℕ
-line_ends [] = 0
-line_ends (b ∷ bs) = line_end b + line_ends bs
+line_ends bs = count_by (λ b. b == 10) bs
 
 -- Whole lines: nothing, or bytes that end with a line end.
 abbrev pub WholeLines : List ℕ → Type 0
@@ -21,6 +17,10 @@ pub record EndsAt (bytes : List ℕ) (position : TextPosition) : Type 0 where
   pub part : List ℕ
   pub parts : bytes ≡ lines ++ part
   pub whole : WholeLines lines
-  pub inside : AllByRecursion (λ b. b ≢ 10) part
+  pub inside : All (λ b. b ≢ 10) part
   pub line : position.line ≡ 1 + line_ends lines
   pub column : position.column ≡ 1 + length part
+
+-- A position as it is printed.
+abbrev pub position_text : TextPosition → List ℕ
+position_text p = codes "line " ++ (decimal p.line ++ (codes ", column " ++ decimal p.column))

@@ -1,5 +1,5 @@
 -- What settling the sheet of a text comes to.
-use Rattle.std.specs.Prelude.{◌≡◌, ℕ, List, Ok, Err, Result}
+use Rattle.std.specs.Prelude.{◌≡◌, ℕ, List, ◌++◌, Ok, Err, Result, codes, decimal}
 use Rattle.prefix.specs.Prefixes.{kinds}
 use Rattle.prefix.specs.declared.prefix.Prefix.{Prefix}
 use Rattle.sheet.specs.Rules.{rules_kept}
@@ -28,3 +28,7 @@ abbrev pub Settled : List ℕ → Result Settlement JobFault → Type 0
 Settled t (Ok r) = Counted t r
 Settled t (Err (fault.Sheet f)) = read_text t ≡ Err f
 Settled t (Err fault.Memory) = Unit {0}
+
+-- A settlement as it is printed.
+abbrev pub settlement_text : Settlement → List ℕ
+settlement_text s = codes "policies " ++ decimal s.policies.value

@@ -9,8 +9,5 @@ pub const MOST_BYTES: usize = 65_536;
 pub fn taken(input: &[u8]) -> &[u8]
     ensures { result.now ≡ taken input.now }
 {
-    if input.len() > MOST_BYTES {
-        return &[];
-    }
-    input
+    if input.len() > MOST_BYTES { &[] } else { input }
 }

@@ -1,6 +1,8 @@
 // Where a place of a text is, as a person counts.
-ghost use Rattle.std.specs.Prelude.{take};
-ghost use Rattle.jobs.specs.Positions.{EndsAt};
+ghost use Rattle.std.specs.Prelude.{take, Some};
+ghost use Rattle.jobs.specs.Positions.{EndsAt, position_text};
+
+use std::fmt;
 
 // Lines and columns count from 1; a column is a byte.
 #[derive(Clone, Copy, PartialEq, Eq, Debug)]
@@ -14,26 +16,31 @@ impl TextPosition {
     pub fn of(text: &[u8], place: usize) -> TextPosition
         ensures { EndsAt (take place text.now) result }
     {
-        if place >= text.len() {
-            return TextPosition::after(text);
-        }
-        TextPosition::after(&text[0..place])
+        TextPosition::after(text.get(..place).unwrap_or(text))
     }
 
     // The position right after these bytes.
     pub fn after(bytes: &[u8]) -> TextPosition
         ensures { EndsAt bytes.now result }
     {
-        let mut line = 1;
-        let mut column = 1;
-        for byte in bytes {
-            if *byte == b'\n' {
-                line += 1;
-                column = 1;
-                continue;
-            }
-            column += 1;
+        let line_ends = bytes.iter().filter(|byte| **byte == b'\n').count();
+        let since = bytes
+            .iter()
+            .rev()
+            .take_while(|byte| **byte != b'\n')
+            .count();
+        TextPosition {
+            line: line_ends + 1,
+            column: since + 1,
         }
-        TextPosition { line, column }
+    }
+}
+
+impl fmt::Display for TextPosition {
+    ghost output = { λ p. Some (position_text p) };
+
+    fn fmt<W: fmt::Write>(&self, f: &mut fmt::Formatter<W>) -> fmt::Result {
+        let TextPosition { line, column } = *self;
+        write!(f, "line {line}, column {column}")
     }
 }

@@ -1,7 +1,7 @@
 // Settles a site: how many winning policies does its sheet have?
-ghost use Rattle.std.specs.Prelude.{◌≡◌, length, Err, MatchResult};
+ghost use Rattle.std.specs.Prelude.{◌≡◌, length, Some, Err, MatchResult};
 ghost use Rattle.jobs.specs.Inputs.{taken as counted};
-ghost use Rattle.jobs.specs.Settling.{Counted, Settled};
+ghost use Rattle.jobs.specs.Settling.{Counted, Settled, settlement_text};
 ghost use Rattle.sheet_text.specs.Reading.{read_text};
 
 use crate::fault::JobFault;
@@ -11,6 +11,7 @@ use sheet::Rule;
 use sheet::rule::MOST_RULES;
 use sheet_text::read_sheet;
 use std::alloc::Global;
+use std::fmt;
 use worth::count_policies_of;
 use worth::policy_count::PolicyCount;
 
@@ -20,23 +21,32 @@ pub struct Settlement {
     pub policies: PolicyCount,
 }
 
+impl fmt::Display for Settlement {
+    ghost output = { λ s. Some (settlement_text s) };
+
+    fn fmt<W: fmt::Write>(&self, f: &mut fmt::Formatter<W>) -> fmt::Result {
+        let policies = self.policies;
+        write!(f, "policies {policies}")
+    }
+}
+
 // The settlement of the sheet that the input says; an input of more than 65,536
 // bytes counts as empty.
 pub fn settle(heap: Global, input: &[u8]) -> Result<Settlement, JobFault>
     ensures { Settled (counted input.now) result }
 {
     let mut table = vec![in heap; Rule::empty(); MOST_RULES]?;
-    let settlement = settle_in(&mut table, taken(input))?;
-    Ok(settlement)
+    Ok(settle_in(&mut table, taken(input))?)
 }
 
 // The same in a table of the caller's; where that has a place for each of the 256
 // rules that a sheet may have, a refusal is the text's own.
+#[tactic(auto, using(std::proofs::lemmas::Grind::common_steps, crate::proofs::Settled::unsaid))]
 fn settle_in(table: &mut [Rule], text: &[u8]) -> Result<Settlement, SheetFault>
     ensures { MatchResult result (Counted text.now) (λ f. length table.old ≡ 256 → read_text text.now ≡ Err f) }
 {
     let reading = read_sheet(text, table)?;
-    let count = reading.rules;
-    let policies = count_policies_of(reading.form, reading.prefix, &table[0..count]);
+    let rules = &table[..reading.rules];
+    let policies = count_policies_of(reading.form, reading.prefix, rules);
     Ok(Settlement { policies })
 }

@@ -9,9 +9,7 @@ use std::test::Fail;
 // A good text, made longer by empty lines: two policies for its one reply.
 fn one_reply(heap: Global, length: usize) -> Result<Vec<u8>, AllocError> {
     let mut text = b"p cnf 1 0\ne 1 0\n".to_vec(heap)?;
-    for _ in text.len()..length {
-        text.push(b'\n')?;
-    }
+    text.resize(length, b'\n')?;
     Ok(text)
 }
 
@@ -41,18 +39,14 @@ fn inputs_are_taken_up_to_65536_bytes(rt: HostRuntime) -> Result<(), Fail> {
     assert_eq!(rt; settle(heap, &longest)?.policies.value(), 2);
     let longer = one_reply(heap, 65_537)?;
     assert_eq!(rt; longer.len(), 65_537);
-    let Err(fault) = settle(heap, &longer) else {
-        return Err(Fail::new("taken"));
-    };
+    let fault = settle(heap, &longer).err().ok_or("taken")?;
     assert_eq!(rt; fault, JobFault::Sheet(SheetFault::Word { place: 0 }));
     Ok(())
 }
 
 #[test]
 fn the_readers_fault_comes_through(rt: HostRuntime) -> Result<(), Fail> {
-    let Err(fault) = settle(rt.alloc(), b"c\tx\n") else {
-        return Err(Fail::new("taken"));
-    };
+    let fault = settle(rt.alloc(), b"c\tx\n").err().ok_or("taken")?;
     assert_eq!(rt;
         fault,
         JobFault::Sheet(SheetFault::Text(TextFault::Byte { place: 1 }))

@@ -1,33 +1,13 @@
-use Rattle.std.proofs.Common.{ℕ, ◌+◌, List, get_or, take, sym, subst, arith}
-use Rattle.std.proofs.lemmas.List.{take_more, take_all}
-use Rattle.jobs.specs.Positions.{EndsAt}
-use Rattle.jobs.proofs.Positioned.{ends_none, ends_line, ends_byte}
+use Rattle.std.proofs.Common.{ℕ, eqb, not, rules, tests}
+use Rattle.std.proofs.lemmas.Iterator.Adapters.{YieldsList-from_rev_slice}
+use Rattle.std.proofs.lemmas.Iterator.Consumers.{YieldsList-at, count_from_yields_List}
+use Rattle.std.proofs.lemmas.Iterator.Search.{YieldsList-from_take_while}
+use Rattle.jobs.proofs.Positioned.{ends_at}
 use Rattle.jobs.proofs.position.TextPosition.after.Goals as goal
-
-pub loop-byte-init : goal.loop-byte-init
-loop-byte-init c = (ends_none, omega arith, omega arith)
-
-pub loop-byte-preserved-then-byte-eq10 : goal.loop-byte-preserved-then-byte-eq10
-loop-byte-preserved-then-byte-eq10 c =
-    let i = c.loop-byte.byte-index in
-    let bs = c.args.bytes.now in (
-      subst (λ (t : List ℕ). EndsAt t (record { line = c.loop-byte.line + 1; column = 1 })) (sym (take_more bs i 0 c.loop-byte-test.true))
-          (ends_line (take i bs) (get_or bs i 0) c.loop-byte.line c.loop-byte.column c.loop-byte.invariant.0 c.if-byte-eq10.true),
-      omega (arith, c.loop-byte.invariant.1),
-      omega arith,
-    )
-
-pub loop-byte-preserved : goal.loop-byte-preserved
-loop-byte-preserved c =
-    let i = c.loop-byte.byte-index in
-    let bs = c.args.bytes.now in (
-      subst (λ (t : List ℕ). EndsAt t (record { line = c.loop-byte.line; column = c.loop-byte.column + 1 })) (sym (take_more bs i 0 c.loop-byte-test.true))
-          (ends_byte (take i bs) (get_or bs i 0) c.loop-byte.line c.loop-byte.column c.loop-byte.invariant.0 c.if-byte-eq10.false),
-      omega (arith, c.loop-byte.invariant.1),
-      omega (arith, c.loop-byte.invariant.2),
-    )
 
 pub returns : goal.returns
 returns c =
-    subst (λ (bs : List ℕ). EndsAt bs (record { line = c.loop-byte.line; column = c.loop-byte.column }))
-    (take_all c.loop-byte.byte-index c.args.bytes.now c.loop-byte-test.false) c.loop-byte.invariant.0
+    ends_at c.args.bytes.now c.count-line_ends.result c.count-since.result (search rules)
+    (count_from_yields_List c.take_while.result _ c.count-since.ensures.ran
+    (YieldsList-from_take_while _ (λ (b : ℕ). not (eqb b 10)) (YieldsList-at c.take_while.ensures.source (YieldsList-from_rev_slice c.args.bytes.now (cc)))
+    c.take_while.ensures.closure c.take_while.ensures.done (λ x b q k. search (rules, tests))))
