@@ -1,74 +1,69 @@
 // Large sheets over 24 positions with 256 rules, made by a fixed generator.
 // `tools/baseline/walk.c` makes the same.
+use anyhow::Context;
+use prefix::Prefix;
+use sheet::rule::MOST_RULES;
 use sheet::{Form, Literal, Rule};
 use std::alloc::{AllocError, Global};
+use std::iter;
 
-#[derive(Clone, Copy)]
-pub(crate) enum Large {
-    Interleaved,
-    ReportsLast,
-    RepliesOnly,
-    ReportsFirst,
-    Terms,
+// A sheet by its parts, with how many literals each of its rules has.
+pub(crate) struct Large {
+    pub(crate) name: &'static str,
+    pub(crate) form: Form,
+    reports: u32,
+    width: usize,
 }
 
 impl Large {
-    pub(crate) const ALL: [Large; 5] = [
-        Large::Interleaved,
-        Large::ReportsLast,
-        Large::RepliesOnly,
-        Large::ReportsFirst,
-        Large::Terms,
+    pub(crate) const ALL: &'static [Large] = &[
+        Large {
+            name: "interleaved",
+            form: Form::Cnf,
+            reports: 0x555555,
+            width: 8,
+        },
+        Large {
+            name: "reports-last",
+            form: Form::Cnf,
+            reports: 0xfff000,
+            width: 11,
+        },
+        Large {
+            name: "replies-only",
+            form: Form::Cnf,
+            reports: 0,
+            width: 6,
+        },
+        Large {
+            name: "reports-first",
+            form: Form::Cnf,
+            reports: 0x000fff,
+            width: 16,
+        },
+        Large {
+            name: "terms",
+            form: Form::Dnf,
+            reports: 0x000fff,
+            width: 3,
+        },
     ];
 
-    pub(crate) fn name(self) -> &'static str {
-        match self {
-            Large::Interleaved => "interleaved",
-            Large::ReportsLast => "reports-last",
-            Large::RepliesOnly => "replies-only",
-            Large::ReportsFirst => "reports-first",
-            Large::Terms => "terms",
-        }
+    pub(crate) fn prefix(&self) -> anyhow::Result<Prefix> {
+        Prefix::new(Prefix::MOST_POSITIONS, self.reports).context(
+            "the prefix is outside the limits",
+        )
     }
 
-    pub(crate) fn form(self) -> Form {
-        match self {
-            Large::Terms => Form::Dnf,
-            _ => Form::Cnf,
-        }
-    }
-
-    pub(crate) fn reports(self) -> u32 {
-        match self {
-            Large::Interleaved => 0x555555,
-            Large::ReportsLast => 0xfff000,
-            Large::RepliesOnly => 0,
-            Large::ReportsFirst | Large::Terms => 0x000fff,
-        }
-    }
-
-    // How many literals each rule has.
-    fn width(self) -> usize {
-        match self {
-            Large::Interleaved => 8,
-            Large::ReportsLast => 11,
-            Large::RepliesOnly => 6,
-            Large::ReportsFirst => 16,
-            Large::Terms => 3,
-        }
-    }
-
-    pub(crate) fn rules(self, heap: Global) -> Result<Vec<Rule>, AllocError> {
+    pub(crate) fn rules(&self, heap: Global) -> Result<Vec<Rule>, AllocError> {
         let mut numbers = Numbers { seed: 1 };
-        let mut rules = Vec::with_capacity(heap, 256)?;
-        for _ in 0..256 {
-            rules.push(numbers.rule(self.width()))?;
-        }
-        Ok(rules)
+        iter::repeat_with(|| numbers.rule(self.width))
+            .take(MOST_RULES)
+            .collect(heap)
     }
 }
 
-// Strides that meet every position once.
+// Strides that meet every position once; an array, since a number picks one.
 const STRIDES: [usize; 8] = [1, 5, 7, 11, 13, 17, 19, 23];
 
 // A linear congruential generator.
@@ -90,7 +85,7 @@ impl Numbers {
     fn rule(&mut self, width: usize) -> Rule {
         let place = self.next();
         let values = self.next();
-        let stride = STRIDES[place / 24 % 8];
+        let stride = STRIDES[place / 24 % STRIDES.len()];
         let mut rule = Rule::empty();
         for k in 0..width.min(16) {
             let position = (place % 24 + k * stride) % 24 + 1;

@@ -4,41 +4,32 @@
 
 mod large;
 
-use anyhow::anyhow;
+use anyhow::Context;
 use large::Large;
-use prefix::Prefix;
 use std::env;
 use worth::count_policies_of;
 
 fn main(rt: HostRuntime) -> anyhow::Result<()> {
     match env::args(&rt)?.nth(1) {
         None => list(&rt),
-        Some(name) => run(&rt, name.as_str()),
+        Some(name) => measure(&rt, name.as_str()),
     }
 }
 
 fn list(rt: &HostRuntime) -> anyhow::Result<()> {
     for sheet in Large::ALL {
-        rt.println(sheet.name())?;
+        rt.println(sheet.name)?;
     }
     Ok(())
 }
 
-fn run(rt: &HostRuntime, name: &str) -> anyhow::Result<()> {
-    for sheet in Large::ALL {
-        if sheet.name() == name {
-            return measure(rt, sheet);
-        }
-    }
-    Err(anyhow!("no sheet has that name"))
-}
-
-fn measure(rt: &HostRuntime, sheet: Large) -> anyhow::Result<()> {
-    let Some(prefix) = Prefix::new(24, sheet.reports()) else {
-        return Err(anyhow!("the prefix is outside the limits"));
-    };
+fn measure(rt: &HostRuntime, name: &str) -> anyhow::Result<()> {
+    let sheet = Large::ALL
+        .iter()
+        .find(|sheet| sheet.name == name)
+        .context("no sheet has that name")?;
     let rules = sheet.rules(rt.alloc())?;
-    let count = count_policies_of(sheet.form(), prefix, &rules);
+    let count = count_policies_of(sheet.form, sheet.prefix()?, &rules);
     println!(rt; "{count}")?;
     Ok(())
 }

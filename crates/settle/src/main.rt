@@ -4,18 +4,20 @@
 // number of the refusal and its place. A refusal is explained on standard error.
 #![tactic(auto)]
 
-use anyhow::anyhow;
 use faults::SheetFault;
 use jobs::input::{MOST_BYTES, taken};
-use jobs::{JobFault, Settlement, TextPosition, settle};
+use jobs::{JobFault, TextPosition, settle};
 use std::io::Read;
 
 fn main(rt: HostRuntime) -> anyhow::Result<()> {
     let input = read_input(&rt);
     match settle(rt.alloc(), &input) {
-        Ok(settlement) => show(&rt, settlement),
-        Err(fault) => decline(&rt, &input, fault),
+        Ok(settlement) => println!(rt; "{settlement}")?,
+        // a refusal is an answer; want of memory is a failure
+        Err(JobFault::Sheet(fault)) => refuse(&rt, &input, fault)?,
+        Err(fault) => return Err(fault.into()),
     }
+    Ok(())
 }
 
 // Standard input up to one byte more than counts; an input that is missing or
@@ -29,20 +31,6 @@ fn read_input(rt: &HostRuntime) -> Vec<u8> {
     input
 }
 
-fn show(rt: &HostRuntime, settlement: Settlement) -> anyhow::Result<()> {
-    let policies = settlement.policies;
-    println!(rt; "policies {policies}")?;
-    Ok(())
-}
-
-// A refusal is an answer; want of memory is a failure.
-fn decline(rt: &HostRuntime, input: &[u8], fault: JobFault) -> anyhow::Result<()> {
-    match fault {
-        JobFault::Sheet(fault) => refuse(rt, input, fault),
-        JobFault::Memory => Err(anyhow!("not enough memory")),
-    }
-}
-
 fn refuse(rt: &HostRuntime, input: &[u8], fault: SheetFault) -> anyhow::Result<()> {
     let number = fault.number();
     let place = fault.place();
@@ -50,7 +38,7 @@ fn refuse(rt: &HostRuntime, input: &[u8], fault: SheetFault) -> anyhow::Result<(
     if input.len() > MOST_BYTES {
         eprintln!(rt; "the input is longer than {MOST_BYTES} bytes and counts as empty")?;
     }
-    let TextPosition { line, column } = TextPosition::of(taken(input), place);
-    eprintln!(rt; "line {line}, column {column}: {fault}")?;
+    let position = TextPosition::of(taken(input), place);
+    eprintln!(rt; "{position}: {fault}")?;
     Ok(())
 }

@@ -3,7 +3,6 @@
 
 mod sample;
 
-use anyhow::anyhow;
 use sample::Sample;
 use worth::count_policies_of;
 
@@ -14,13 +13,10 @@ fn main(rt: HostRuntime) -> anyhow::Result<()> {
     Ok(())
 }
 
-fn show(rt: &HostRuntime, sample: Sample) -> anyhow::Result<()> {
-    let Some(prefix) = sample.prefix() else {
-        return Err(anyhow!("a sample's prefix is outside the limits"));
-    };
+fn show(rt: &HostRuntime, sample: &Sample) -> anyhow::Result<()> {
     let rules = sample.rules(rt.alloc())?;
-    let name = sample.name();
-    let count = count_policies_of(sample.form(), prefix, &rules);
+    let count = count_policies_of(sample.form, sample.prefix()?, &rules);
+    let name = sample.name;
     println!(rt; "{name}: policies {count}")?;
     Ok(())
 }

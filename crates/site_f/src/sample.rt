@@ -1,97 +1,101 @@
 // The sheets that the program counts, as values.
-use anyhow::anyhow;
+use anyhow::Context;
 use prefix::Prefix;
 use sheet::{Form, Literal, Rule};
 use std::alloc::Global;
 
-#[derive(Clone, Copy)]
-pub(crate) enum Sample {
-    SiteF,
-    ReportFirst,
-    OneReply,
-    EmptyClause,
-    NoTerms,
-    EmptyTerm,
-    NineteenReplies,
-    TwentyReplies,
+// A sheet by its parts. A rule has its literals as a line of a sheet's text has
+// them: a position, with a minus where the value wanted is off.
+pub(crate) struct Sample {
+    pub(crate) name: &'static str,
+    pub(crate) form: Form,
+    length: usize,
+    reports: u32,
+    rules: &'static [&'static [i8]],
 }
 
 impl Sample {
-    pub(crate) const ALL: [Sample; 8] = [
-        Sample::SiteF,
-        Sample::ReportFirst,
-        Sample::OneReply,
-        Sample::EmptyClause,
-        Sample::NoTerms,
-        Sample::EmptyTerm,
-        Sample::NineteenReplies,
-        Sample::TwentyReplies,
+    pub(crate) const ALL: &'static [Sample] = &[
+        Sample {
+            name: "site F",
+            form: Form::Cnf,
+            length: 4,
+            reports: 0b0101,
+            rules: &[&[2, 3], &[-2, -3, 4], &[-2, 3, -1, -4], &[-2, 3, 1, 4]],
+        },
+        Sample {
+            name: "a report, then two replies",
+            form: Form::Cnf,
+            length: 3,
+            reports: 0b001,
+            rules: &[&[-3, 1], &[-2, 1], &[3, 2, -1]],
+        },
+        Sample {
+            name: "one reply without rules",
+            form: Form::Cnf,
+            length: 1,
+            reports: 0,
+            rules: &[],
+        },
+        Sample {
+            name: "an empty clause",
+            form: Form::Cnf,
+            length: 1,
+            reports: 0,
+            rules: &[&[]],
+        },
+        Sample {
+            name: "no terms",
+            form: Form::Dnf,
+            length: 1,
+            reports: 0,
+            rules: &[],
+        },
+        Sample {
+            name: "an empty term",
+            form: Form::Dnf,
+            length: 1,
+            reports: 0,
+            rules: &[&[]],
+        },
+        Sample {
+            name: "19 replies without rules",
+            form: Form::Cnf,
+            length: 19,
+            reports: 0,
+            rules: &[],
+        },
+        Sample {
+            name: "20 replies without rules",
+            form: Form::Cnf,
+            length: 20,
+            reports: 0,
+            rules: &[],
+        },
     ];
 
-    pub(crate) fn name(self) -> &'static str {
-        match self {
-            Sample::SiteF => "site F",
-            Sample::ReportFirst => "a report, then two replies",
-            Sample::OneReply => "one reply without rules",
-            Sample::EmptyClause => "an empty clause",
-            Sample::NoTerms => "no terms",
-            Sample::EmptyTerm => "an empty term",
-            Sample::NineteenReplies => "19 replies without rules",
-            Sample::TwentyReplies => "20 replies without rules",
-        }
+    pub(crate) fn prefix(&self) -> anyhow::Result<Prefix> {
+        Prefix::new(self.length, self.reports).context("a sample's prefix is outside the limits")
     }
 
-    pub(crate) fn form(self) -> Form {
-        match self {
-            Sample::NoTerms | Sample::EmptyTerm => Form::Dnf,
-            _ => Form::Cnf,
-        }
-    }
-
-    pub(crate) fn prefix(self) -> Option<Prefix> {
-        match self {
-            Sample::SiteF => Prefix::new(4, 0b0101),
-            Sample::ReportFirst => Prefix::new(3, 0b001),
-            Sample::NineteenReplies => Prefix::new(19, 0),
-            Sample::TwentyReplies => Prefix::new(20, 0),
-            _ => Prefix::new(1, 0),
-        }
-    }
-
-    pub(crate) fn rules(self, heap: Global) -> anyhow::Result<Vec<Rule>> {
-        let mut rules = Vec::new(heap);
-        match self {
-            Sample::SiteF => {
-                rules.push(rule(&[Literal::on(2), Literal::on(3)])?)?;
-                rules.push(rule(&[Literal::off(2), Literal::off(3), Literal::on(4)])?)?;
-                rules.push(rule(&[
-                    Literal::off(2),
-                    Literal::on(3),
-                    Literal::off(1),
-                    Literal::off(4),
-                ])?)?;
-                rules.push(rule(&[
-                    Literal::off(2),
-                    Literal::on(3),
-                    Literal::on(1),
-                    Literal::on(4),
-                ])?)?;
-            }
-            Sample::ReportFirst => {
-                rules.push(rule(&[Literal::off(3), Literal::on(1)])?)?;
-                rules.push(rule(&[Literal::off(2), Literal::on(1)])?)?;
-                rules.push(rule(&[Literal::on(3), Literal::on(2), Literal::off(1)])?)?;
-            }
-            Sample::EmptyClause | Sample::EmptyTerm => rules.push(Rule::empty())?,
-            _ => {}
-        }
-        Ok(rules)
+    pub(crate) fn rules(&self, heap: Global) -> anyhow::Result<Vec<Rule>> {
+        self.rules
+            .iter()
+            .map(|literals| rule(literals))
+            .try_collect(heap)
     }
 }
 
-fn rule(literals: &[Literal]) -> anyhow::Result<Rule> {
-    match Rule::of(literals) {
-        Some(rule) => Ok(rule),
-        None => Err(anyhow!("a sample's rule names a position twice")),
+fn rule(literals: &[i8]) -> anyhow::Result<Rule> {
+    literals
+        .iter()
+        .try_fold(Rule::empty(), |rule, signed| rule.with(literal(*signed)))
+        .context("a sample's rule names a position twice")
+}
+
+fn literal(signed: i8) -> Literal {
+    Literal {
+        position: signed.unsigned_abs() as usize,
+        wanted: signed > 0,
     }
 }

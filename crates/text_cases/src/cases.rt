@@ -1,10 +1,11 @@
 // The texts, each with a name. What is wanted of each stands in `stdout`. Some of the
 // wrong words are from the edges of the letters, A, Z and z, and @ [ ` { beside them.
+use std::alloc::{AllocError, Global};
 
 #[derive(Clone, Copy)]
-pub(crate) struct Case {
+pub(crate) struct Case<'a> {
     pub(crate) name: &'static str,
-    pub(crate) text: &'static [u8],
+    pub(crate) text: &'a [u8],
 }
 
 // A text whose rules are all `1 0`: the lines before them, how many rules follow,
@@ -12,13 +13,21 @@ pub(crate) struct Case {
 #[derive(Clone, Copy)]
 pub(crate) struct EqualRules {
     pub(crate) name: &'static str,
-    pub(crate) opening: &'static [u8],
-    pub(crate) count: usize,
+    opening: &'static [u8],
+    count: usize,
     pub(crate) room: usize,
 }
 
+impl EqualRules {
+    pub(crate) fn text(&self, heap: Global) -> Result<Vec<u8>, AllocError> {
+        let mut text = self.opening.to_vec(heap)?;
+        text.extend_from_slice(&b"1 0\n".repeat(heap, self.count)?)?;
+        Ok(text)
+    }
+}
+
 // Texts that are read into a table for 256 rules.
-pub(crate) const WHOLE_TABLE: [Case; 84] = [
+pub(crate) const WHOLE_TABLE: &[Case] = &[
     // sheets
     Case {
         name: "site F",
@@ -367,7 +376,7 @@ pub(crate) const WHOLE_TABLE: [Case; 84] = [
 ];
 
 // Texts that are read into a table with room for no rule, which is found last of all.
-pub(crate) const NO_TABLE: [Case; 9] = [
+pub(crate) const NO_TABLE: &[Case] = &[
     Case {
         name: "no table and no rules",
         text: b"p cnf 2 0\ne 1 2 0\n",
@@ -406,7 +415,7 @@ pub(crate) const NO_TABLE: [Case; 9] = [
     },
 ];
 
-pub(crate) const EQUAL_RULES: [EqualRules; 7] = [
+pub(crate) const EQUAL_RULES: &[EqualRules] = &[
     EqualRules {
         name: "256 rules",
         opening: b"p cnf 2 256\ne 1 2 0\n",
