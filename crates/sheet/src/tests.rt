@@ -36,7 +36,8 @@ fn a_rule_has_distinct_positions_within_reach(rt: HostRuntime) -> Result<(), Fai
     Ok(())
 }
 
-// The clause of the positions 2 and 3.
+// The clause of the positions 2 and 3. A test for each form, so that its name says which
+// one fails.
 #[test]
 fn a_clause_breaks_where_all_its_literals_fail(rt: HostRuntime) -> Result<(), Fail> {
     let prefix = Prefix::new(3, 0).ok_or("refused")?;

@@ -4,7 +4,8 @@ use prefix::Prefix;
 use sheet::{Form, Literal, Rule};
 use std::alloc::Global;
 
-// A sheet by its parts. A rule has its literals as a line of a sheet's text has
+// A sheet by its parts; `bench` has a table alike, and no library stands between the
+// two programs. A rule has its literals as a line of a sheet's text has
 // them: a position, with a minus where the value wanted is off.
 pub(crate) struct Sample {
     pub(crate) name: &'static str,
