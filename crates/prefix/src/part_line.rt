@@ -11,9 +11,10 @@ pub struct PartLine {
 }
 
 impl PartLine {
-    // The part line without values.
+    // The part line without values; the line behind it is all off.
     pub fn empty() -> PartLine
-        ensures { result.length ≡ 0 }
+        ensures length { result.length ≡ 0 }
+        ensures line { result.line.mask ≡ 0 }
     {
         PartLine {
             length: 0,
