@@ -13,22 +13,22 @@ use thiserror::Error;
 pub enum SheetFault {
     #[error(transparent)]
     Text(TextFault),
-    #[error("a number is wanted here")]
+    #[error("no number where one is wanted; 1 to 6 digits, no leading zero, a minus only before a literal other than 0, and 0 to end a quantifier line or a rule")]
     NoNumber { place: usize },
-    #[error("a wrong, extra or missing word")]
+    #[error("a wrong, extra or missing word; the lines are comments (c), one header (p cnf or p dnf, two numbers), variables (a or e, ending in 0), rules (ending in 0), in this order")]
     Word { place: usize },
     // of variables, of rules or of reports, or a variable itself
-    #[error("a number past its limit")]
+    #[error("past a limit; 1 to 24 variables, at most 12 of them reports (a), at most 256 rules, no variable above the header's number")]
     Limit { place: usize },
     // in the quantifier lines or in one rule
-    #[error("this variable was named before")]
+    #[error("a variable named already; each is named once in the quantifier lines (a or e), and at most once in a rule")]
     Repeated { place: usize },
-    #[error("a variable stands in no quantifier line")]
+    #[error("a variable in no quantifier line; each from 1 to the header's number is named in one (a or e) before the first rule")]
     Unnamed { place: usize },
-    #[error("not as many rules as the header says")]
+    #[error("not as many rules as the header says; one too many begins here, or the text ends with some missing")]
     RuleCount { place: usize },
     // the caller's table
-    #[error("the table of rules is too short")]
+    #[error("a table of rules that is too short; it has a place for each rule of the sheet")]
     TableTooShort,
 }
 

@@ -6,9 +6,12 @@ use crate::layer::Layer;
 use thiserror::Error;
 
 // A fault of the text itself, whatever its words would say.
+//
+// Each message here and in `SheetFault` says what is wrong, and after the semicolon
+// what is wanted, since people mend their files by it.
 #[derive(Clone, Copy, PartialEq, Eq, Debug, Error)]
 pub enum TextFault {
-    #[error("a byte that is neither a line end nor a printable character")]
+    #[error("a byte that no sheet has; only line ends (byte 10) and printable ASCII (32 to 126) may stand here, no tab, no carriage return")]
     Byte { place: usize },
 }
 
