@@ -36,8 +36,8 @@ pub enum SheetFault {
 impl From<TextFault> for SheetFault {
     ghost from_gives = { λ t s. s ≡ Text t };
 
-    fn from(fault: TextFault) -> SheetFault {
-        SheetFault::Text(fault)
+    fn from(inner: TextFault) -> SheetFault {
+        SheetFault::Text(inner)
     }
 }
 

@@ -21,8 +21,8 @@ pub enum JobFault {
 impl From<SheetFault> for JobFault {
     ghost from_gives = { λ s j. j ≡ Sheet s };
 
-    fn from(fault: SheetFault) -> JobFault {
-        JobFault::Sheet(fault)
+    fn from(inner: SheetFault) -> JobFault {
+        JobFault::Sheet(inner)
     }
 }
 
