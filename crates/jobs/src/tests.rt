@@ -1,4 +1,5 @@
 // What the jobs answer at chosen inputs.
+use crate::explanation::Explanation;
 use crate::fault::JobFault;
 use crate::position::TextPosition;
 use crate::settling::settle;
@@ -72,4 +73,57 @@ fn places_have_lines_and_columns(rt: HostRuntime) {
         let position = TextPosition { line, column };
         assert_eq!(rt; TextPosition::of(b"ab\n\nc", place), position);
     }
+}
+
+// What a person is told of an input that is refused.
+fn explained(heap: Global, input: &[u8]) -> Result<String, Fail> {
+    match settle(heap, input).err() {
+        Some(JobFault::Sheet(fault)) => Ok(Explanation::of(input, fault).to_string(heap)?),
+        _ => Err("not refused".into()),
+    }
+}
+
+// One text for each number from 1 to 7; a table is never too short for `settle`.
+#[test]
+fn refusals_are_explained(rt: HostRuntime) -> Result<(), Fail> {
+    let tab: &[u8] = b"c\tx\n";
+    let letter: &[u8] = b"p cnf 2 1\na 1 0\ne 2 0\n1 x 0\n";
+    let no_line: &[u8] = b"p cnf 1 0\na 0\n";
+    let past: &[u8] = b"c\n\n  p cnf 25 0\n";
+    let twice: &[u8] = b"p cnf 1 0\na 1 1 0\n";
+    let unnamed: &[u8] = b"p cnf 2 0\na 1 0\n";
+    let rule_wanted: &[u8] = b"p cnf 1 1\ne 1 0";
+    for (text, line) in [
+        (
+            tab,
+            "line 1, column 2: a byte that no sheet has; only line ends (byte 10) and printable ASCII (32 to 126) may stand here, no tab, no carriage return",
+        ),
+        (
+            letter,
+            "line 4, column 3: no number where one is wanted; 1 to 6 digits, no leading zero, a minus only before a literal other than 0, and 0 to end a quantifier line or a rule",
+        ),
+        (
+            no_line,
+            "line 2, column 3: a wrong, extra or missing word; the lines are comments (c), one header (p cnf or p dnf, two numbers), variables (a or e, ending in 0), rules (ending in 0), in this order",
+        ),
+        (
+            past,
+            "line 3, column 9: past a limit; 1 to 24 variables, at most 12 of them reports (a), at most 256 rules, no variable above the header's number",
+        ),
+        (
+            twice,
+            "line 2, column 5: a variable named already; each is named once in the quantifier lines (a or e), and at most once in a rule",
+        ),
+        (
+            unnamed,
+            "line 3, column 1: a variable in no quantifier line; each from 1 to the header's number is named in one (a or e) before the first rule",
+        ),
+        (
+            rule_wanted,
+            "line 2, column 6: not as many rules as the header says; one too many begins here, or the text ends with some missing",
+        ),
+    ] {
+        assert_eq!(rt; explained(rt.alloc(), text)?.as_str(), line);
+    }
+    Ok(())
 }

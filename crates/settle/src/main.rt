@@ -5,8 +5,8 @@
 #![tactic(auto)]
 
 use faults::SheetFault;
-use jobs::input::{MOST_BYTES, taken};
-use jobs::{JobFault, TextPosition, settle};
+use jobs::input::MOST_BYTES;
+use jobs::{Explanation, JobFault, settle};
 use std::io::Read;
 
 fn main(rt: HostRuntime) -> anyhow::Result<()> {
@@ -38,7 +38,7 @@ fn refuse(rt: &HostRuntime, input: &[u8], fault: SheetFault) -> anyhow::Result<(
     if input.len() > MOST_BYTES {
         eprintln!(rt; "the input is longer than {MOST_BYTES} bytes and counts as empty")?;
     }
-    let position = TextPosition::of(taken(input), place);
-    eprintln!(rt; "{position}: {fault}")?;
+    let explanation = Explanation::of(input, fault);
+    eprintln!(rt; "{explanation}")?;
     Ok(())
 }
