@@ -1,7 +1,8 @@
 // Reads a sheet on standard input and prints how many winning policies it has.
 //
 // Standard output has one line: `policies` and the count, or `refused`, the
-// number of the refusal and its place. A refusal is explained on standard error.
+// number of the refusal and its place. A refusal is explained on standard error; where
+// that cannot be written, the answer stands all the same.
 #![tactic(auto)]
 
 use faults::SheetFault;
@@ -20,13 +21,16 @@ fn main(rt: HostRuntime) -> anyhow::Result<()> {
     Ok(())
 }
 
-// Standard input up to one byte more than counts; an input that is missing or
-// breaks off counts as empty.
+// Standard input up to one byte more than counts. A person is told where nothing of
+// it counts: it is missing or breaks off, or it is too long.
 fn read_input(rt: &HostRuntime) -> Vec<u8> {
     let mut input = Vec::new(rt.alloc());
     let limit = MOST_BYTES as u64 + 1;
-    if rt.stdin().take(limit).read_to_end(&mut input).is_err() {
+    if let Err(error) = rt.stdin().take(limit).read_to_end(&mut input) {
         input.clear();
+        let _ = eprintln!(rt; "the input cannot be read to its end and counts as empty: {error}");
+    } else if input.len() > MOST_BYTES {
+        let _ = eprintln!(rt; "the input is longer than {MOST_BYTES} bytes and counts as empty");
     }
     input
 }
@@ -35,10 +39,7 @@ fn refuse(rt: &HostRuntime, input: &[u8], fault: SheetFault) -> anyhow::Result<(
     let number = fault.number();
     let place = fault.place();
     println!(rt; "refused {number} {place}")?;
-    if input.len() > MOST_BYTES {
-        eprintln!(rt; "the input is longer than {MOST_BYTES} bytes and counts as empty")?;
-    }
     let explanation = Explanation::of(input, fault);
-    eprintln!(rt; "{explanation}")?;
+    let _ = eprintln!(rt; "{explanation}");
     Ok(())
 }
