@@ -3,7 +3,8 @@ use Rattle.std.proofs.lemmas.List.{at_drop_more, get_or_append_left, get_or_at, 
 use Rattle.std.proofs.lemmas.Bool.{cases_eq, cases_lt}
 use Rattle.std.proofs.lemmas.Bool.Decides.{nat_tests}
 use Rattle.sheet_text.specs.Bytes.{EachBefore, Space, Inner, Printable}
-use Rattle.sheet_text.specs.Words.{line_end, stop, next, bad, Open, gap, within, closed, more, cut, ended, tokens_from, digits_on, natural_of, sort_word}
+use Rattle.sheet_text.specs.Words.{line_end, digits_on, natural_of, sort_word}
+use Rattle.sheet_text.specs.Cuts.{stop, next, bad, Open, gap, within, closed, more, cut, ended, tokens_from}
 
 pub ended_in : (t : List ℕ) (i : ℕ) → i < length t → get_or (ended t) i 0 ≡ get_or t i 0
 ended_in t i h = get_or_append_left t (10 ∷ []) 0 i h

@@ -6,7 +6,8 @@ use Rattle.std.proofs.lemmas.Bool.{ltb-false, eqb-false, cond_both}
 use Rattle.sheet.specs.Literals.{InRange}
 use Rattle.sheet_text.specs.Words.{Token, letters, number, line_end}
 use Rattle.sheet_text.specs.Keeping.{Sound, Fits, Named}
-use Rattle.sheet_text.specs.Machine.{position_of, open_rule, open_in, literal_of, literal_number, literal_word, begun, opened, start_word, comment_word, step_in, step, first_word}
+use Rattle.sheet_text.specs.Machine.{position_of, open_rule, open_in, literal_of, literal_number, literal_word, begun, opened, start_word, comment_word, step_in, step}
+use Rattle.sheet_text.specs.FirstWords.{first_word}
 use Rattle.faults.specs.declared.sheet.SheetFault.{SheetFault}
 use Rattle.sheet_text.specs.declared.state.Mode.{Mode}
 use Rattle.sheet_text.specs.declared.state.Mode.TheVariants as mode

@@ -1,5 +1,6 @@
 -- How comments and the header line are read.
-use Rattle.std.proofs.Common.{◌≡◌, ℕ, ◌≤◌, Bool, true, false, cond, eqb, ltb, List, [], ◌∷◌, replicate, Some, None, Ok, Err, decimal, Option, Result, sym, refl, ap, ◌∙◌, ⊎_elim, arith}
+use Rattle.std.proofs.Common.{◌≡◌, ℕ, ◌≤◌, Bool, true, false, cond, eqb, ltb, List, [], ◌∷◌, replicate, Some, None, Ok, decimal, Option, Result, sym, refl, ap, ◌∙◌, subst, ⊎_elim, arith}
+use Rattle.std.proofs.lemmas.List.{append-nil}
 use Rattle.std.proofs.lemmas.Bool.Decides.{nat_tests}
 use Rattle.std.proofs.lemmas.Bool.{cond-true, cond-false, cases_Bool, eqb-true, ltb-false}
 use Rattle.sheet.specs.declared.form.Form.{Form}
@@ -7,38 +8,44 @@ use Rattle.sheet.specs.declared.form.Form.TheVariants.{Cnf, Dnf}
 use Rattle.sheet.specs.declared.literal.Literal.{Literal}
 use Rattle.sheet_text.specs.Grammar as grammar
 use Rattle.sheet_text.specs.Machine.{start, in_mode, comment_word, form_word, with_form, length_word, with_length, rule_count_word, with_rules, header_end}
-use Rattle.sheet_text.specs.Reading.{Progress, run}
+use Rattle.sheet_text.specs.Reading.{run}
 use Rattle.sheet_text.specs.Wanted.{after, within, form_of, form_at}
-use Rattle.sheet_text.specs.Words.{letters, number, line_end, sort_word, numeral_of, Tokens, next}
+use Rattle.sheet_text.specs.Words.{letters, number, line_end, sort_word, numeral_of}
+use Rattle.sheet_text.specs.Cuts.{Tokens, next}
 use Rattle.faults.specs.declared.sheet.SheetFault.{SheetFault}
 use Rattle.faults.specs.declared.sheet.SheetFault.TheVariants as fault
 use Rattle.sheet_text.specs.declared.state.Mode.TheVariants as mode
 use Rattle.sheet_text.specs.declared.state.State.{State}
 use Rattle.sheet_text.specs.declared.state.Section.TheVariants.{Opening, Quantifiers}
 use Rattle.sheet_text.specs.declared.word.Number.{Number}
-use Rattle.sheet_text.proofs.Lining.{Line}
+use Rattle.sheet_text.proofs.Lining.{Line, WordsTo, line_split}
 use Rattle.sheet_text.proofs.Running.{progress}
 use Rattle.sheet_text.proofs.Spelled.{none_some}
 use Rattle.sheet_text.proofs.Steps.{err_ok}
-use Rattle.sheet_text.proofs.Turning.{turn, turn_back}
-use Rattle.sheet_text.proofs.WordReads.{sort_cases, sort_decimal, sort_form, form_is, plain_word, wanted_back, natural_back}
+use Rattle.sheet_text.proofs.Turning.{turn}
+use Rattle.sheet_text.proofs.WordReads.{sort_cases, sort_decimal, sort_form, form_is}
 
 -- A comment is passed over, whatever its words.
-comment_word_lem : (m : State) (w : List ℕ) (p : ℕ) → comment_word m (sort_word w p) ≡ m
+pub comment_word_lem : (m : State) (w : List ℕ) (p : ℕ) → comment_word m (sort_word w p) ≡ m
 comment_word_lem m w p = grind (arith, nat_tests)
 
-pub comment_line : (ws : List (List ℕ)) (ls : List Literal) (done : List (List Literal)) (ts rest : Tokens) → Line ws ts rest → run (progress (in_mode mode.Comment start) ls done) ts ≡ run (progress start ls done) rest
-comment_line [] ls done ts rest l = turn (in_mode mode.Comment start) ls done ts rest (line_end l.0) (Ok start) l.1 refl start refl
-comment_line (w ∷ ws) ls done ts rest l =
+pub comment_words : (ws : List (List ℕ)) (ls : List Literal) (done : List (List Literal)) (ts rest : Tokens) → WordsTo ws ts rest → run (progress (in_mode mode.Comment start) ls done) ts ≡ run (progress (in_mode mode.Comment start) ls done) rest
+comment_words [] ls done ts rest l = ap (run (progress (in_mode mode.Comment start) ls done)) l
+comment_words (w ∷ ws) ls done ts rest l =
     let m = in_mode mode.Comment start in
-    turn m ls done ts l.1 (sort_word w l.0) (Ok (comment_word m (sort_word w l.0))) l.2 refl m (ap Ok (comment_word_lem m w l.0)) ∙ comment_line ws ls done l.1 rest l.3
+    turn m ls done ts l.1 (sort_word w l.0) (Ok (comment_word m (sort_word w l.0))) l.2 refl m (ap Ok (comment_word_lem m w l.0)) ∙ comment_words ws ls done l.1 rest l.3
+
+pub comment_line : (ws : List (List ℕ)) (ls : List Literal) (done : List (List Literal)) (ts rest : Tokens) → Line ws ts rest → run (progress (in_mode mode.Comment start) ls done) ts ≡ run (progress start ls done) rest
+comment_line ws ls done ts rest l =
+    let go = line_split ws [] ts rest (subst (λ (ws : List (List ℕ)). Line ws ts rest) (sym (append-nil ws)) l) in
+    comment_words ws ls done ts go.0 go.1 ∙ turn (in_mode mode.Comment start) ls done go.0 rest (line_end go.2.0) (Ok start) go.2.1 refl start refl
 
 -- The reader after the header.
 abbrev pub headed : Form → ℕ → ℕ → State
 headed f n r = record { section = Quantifiers; mode = mode.LineStart; form = f; length = n; rules = r; variables = replicate 24 None; named = 0; reports = 0; read = 0 }
 
 -- Between the words of the header.
-abbrev waiting : Form → State
+abbrev pub waiting : Form → State
 waiting f = record { section = Opening; mode = mode.Length; form = f; length = 0; rules = 0; variables = replicate 24 None; named = 0; reports = 0; read = 0 }
 
 length_word_lem : (m : State) (v p : ℕ) → 1 ≤ v → v ≤ 24 → length_word m (number (record { value = v; negative = false }) p) ≡ Ok (with_length m v)
@@ -48,30 +55,30 @@ rules_word : (m : State) (v p : ℕ) → v ≤ 256 → rule_count_word m (number
 rules_word m v p high = grind (arith, nat_tests)
 
 -- The words after p are read where they are as they should be.
+module _ (f : Form) (ls : List Literal) (done : List (List Literal)) (ts rest : Tokens) (p : ℕ) where
+  pub form_forth : ts ≡ next (sort_word (grammar.form_word f) p) rest → run (progress (in_mode mode.Form start) ls done) ts ≡ run (progress (waiting f) ls done) rest
+  form_forth is =
+      turn (in_mode mode.Form start) ls done ts rest (letters (grammar.form_word f) p) (form_word (in_mode mode.Form start) (letters (grammar.form_word f) p)) (is ∙ ap (λ w. next w rest) (sort_form f p)) refl
+      (waiting f) (ap (λ o. after (form_at p o) (λ f. Ok (with_form (in_mode mode.Form start) f))) (form_is f))
+
+  pub positions_forth : (n : ℕ) → 1 ≤ n → n ≤ 24 → ts ≡ next (sort_word (decimal n) p) rest → run (progress (waiting f) ls done) ts ≡ run (progress (with_length (waiting f) n) ls done) rest
+  positions_forth n low high is =
+      turn (waiting f) ls done ts rest (sort_word (decimal n) p) (length_word (waiting f) (sort_word (decimal n) p)) is refl
+      (with_length (waiting f) n) (ap (length_word (waiting f)) (sort_decimal n p (omega arith)) ∙ length_word_lem (waiting f) n p low high)
+
+  pub count_forth : (n r : ℕ) → r ≤ 256 → ts ≡ next (sort_word (decimal r) p) rest → run (progress (with_length (waiting f) n) ls done) ts ≡ run (progress (with_rules (with_length (waiting f) n) r) ls done) rest
+  count_forth n r few is =
+      turn (with_length (waiting f) n) ls done ts rest (sort_word (decimal r) p) (rule_count_word (with_length (waiting f) n) (sort_word (decimal r) p)) is refl
+      (with_rules (with_length (waiting f) n) r) (ap (rule_count_word (with_length (waiting f) n)) (sort_decimal r p (omega arith)) ∙ rules_word (with_length (waiting f) n) r p few)
+
 pub header_forth : (f : Form) (n r : ℕ) (ls : List Literal) (done : List (List Literal)) (ts rest : Tokens) → 1 ≤ n → n ≤ 24 → r ≤ 256
     → Line (grammar.form_word f ∷ decimal n ∷ decimal r ∷ []) ts rest → run (progress (in_mode mode.Form start) ls done) ts ≡ run (progress (headed f n r) ls done) rest
 header_forth f n r ls done ts rest low high few l =
     let l1 = l.3 in
     let l2 = l1.3 in
     let l3 = l2.3 in
-    turn (in_mode mode.Form start) ls done ts l.1 (letters (grammar.form_word f) l.0) (form_word (in_mode mode.Form start) (letters (grammar.form_word f) l.0)) (l.2 ∙ ap (λ w. next w l.1) (sort_form f l.0)) refl
-    (waiting f) (ap (λ o. after (form_at l.0 o) (λ f. Ok (with_form (in_mode mode.Form start) f))) (form_is f))
-    ∙ turn (waiting f) ls done l.1 l1.1 (sort_word (decimal n) l1.0) (length_word (waiting f) (sort_word (decimal n) l1.0)) l1.2 refl
-    (with_length (waiting f) n) (ap (length_word (waiting f)) (sort_decimal n l1.0 (omega arith)) ∙ length_word_lem (waiting f) n l1.0 low high)
-    ∙ turn (with_length (waiting f) n) ls done l1.1 l2.1 (sort_word (decimal r) l2.0) (rule_count_word (with_length (waiting f) n) (sort_word (decimal r) l2.0)) l2.2 refl
-    (with_rules (with_length (waiting f) n) r) (ap (rule_count_word (with_length (waiting f) n)) (sort_decimal r l2.0 (omega arith)) ∙ rules_word (with_length (waiting f) n) r l2.0 few)
+    form_forth f ls done ts l.1 l.0 l.2 ∙ positions_forth f ls done l.1 l1.1 l1.0 n low high l1.2 ∙ count_forth f ls done l1.1 l2.1 l2.0 n r few l2.2
     ∙ turn (with_rules (with_length (waiting f) n) r) ls done l2.1 rest (line_end l3.0) (Ok (headed f n r)) l3.1 refl (headed f n r) refl
-
--- What is read of a header was one.
-pub record HeaderRead (ws : List (List ℕ)) (ls : List Literal) (done : List (List Literal)) (rest : Tokens) (z : Progress) : Type 0 where
-  pub form : Form
-  pub positions : ℕ
-  pub rules : ℕ
-  pub words : ws ≡ grammar.form_word form ∷ decimal positions ∷ decimal rules ∷ []
-  pub some : 1 ≤ positions
-  pub short : positions ≤ 24
-  pub few : rules ≤ 256
-  pub onward : run (progress (headed form positions rules) ls done) rest ≡ Ok z
 
 same_form : (f g : Form) → ◌≡◌ {A = Option Form} (Some f) (Some g) → f ≡ g
 same_form f g e = cc e
@@ -98,7 +105,7 @@ form_back (a ∷ b ∷ c ∷ []) f e =
 form_back (a ∷ b ∷ c ∷ d ∷ ds) f e = absurd (none_some f e)
 
 -- A word that the form was read from.
-form_word_back : (m u : State) (w : List ℕ) (p : ℕ) → form_word m (sort_word w p) ≡ Ok u → (f : Form) × (w ≡ grammar.form_word f) × (with_form m f ≡ u)
+pub form_word_back : (m u : State) (w : List ℕ) (p : ℕ) → form_word m (sort_word w p) ≡ Ok u → (f : Form) × (w ≡ grammar.form_word f) × (with_form m f ≡ u)
 form_word_back m u w p e =
     ⊎_elim (λ (s : (n : Number) × (numeral_of w ≡ Some n) × (sort_word w p ≡ number n p)). absurd (err_ok (fault.Word p) u (sym (ap (form_word m) s.2) ∙ e)))
     (λ (s : (numeral_of w ≡ None) × (sort_word w p ≡ letters w p)). by (form_of w) refl (sym (ap (form_word m) s.1) ∙ e)) (sort_cases w p)
@@ -125,74 +132,11 @@ within_back l h p v go u e =
     next_is o = after o (λ v. Ok (go v))
 
 -- The words that a header's numbers were read from.
-length_back : (m u : State) (v p : ℕ) → length_word m (number (record { value = v; negative = false }) p) ≡ Ok u → (1 ≤ v) × (v ≤ 24) × (with_length m v ≡ u)
+pub length_back : (m u : State) (v p : ℕ) → length_word m (number (record { value = v; negative = false }) p) ≡ Ok u → (1 ≤ v) × (v ≤ 24) × (with_length m v ≡ u)
 length_back m u v p e = within_back 1 24 p v (with_length m) u e
 
-rules_back : (m u : State) (v p : ℕ) → rule_count_word m (number (record { value = v; negative = false }) p) ≡ Ok u → (v ≤ 256) × (with_rules m v ≡ u)
+pub rules_back : (m u : State) (v p : ℕ) → rule_count_word m (number (record { value = v; negative = false }) p) ≡ Ok u → (v ≤ 256) × (with_rules m v ≡ u)
 rules_back m u v p e = grind (arith, nat_tests)
 
-end_refuses : (m u : State) (w : List ℕ) (p : ℕ) → header_end m (sort_word w p) ≡ Ok u → ⊥
+pub end_refuses : (m u : State) (w : List ℕ) (p : ℕ) → header_end m (sort_word w p) ≡ Ok u → ⊥
 end_refuses m u w p e = grind (arith, nat_tests)
-
-module _ (ls : List Literal) (done : List (List Literal)) (rest : Tokens) (z : Progress) where
-  -- After the number of rules the line is over.
-  end_back : (f : Form) (n r : ℕ) (ws : List (List ℕ)) (ts : Tokens) → Line ws ts rest → run (progress (with_rules (with_length (waiting f) n) r) ls done) ts ≡ Ok z
-      → (ws ≡ []) × (run (progress (headed f n r) ls done) rest ≡ Ok z)
-  end_back f n r [] ts l e =
-      let m = with_rules (with_length (waiting f) n) r in
-      let b = turn_back m ls done ts rest (line_end l.0) (Ok (headed f n r)) l.1 refl z e in
-      let same : headed f n r ≡ b.0 = let q = b.1 in cc q in
-      (refl, ap (λ (u : State). run (progress u ls done) rest) same ∙ b.2)
-  end_back f n r (w ∷ ws) ts l e =
-      let m = with_rules (with_length (waiting f) n) r in
-      let b = turn_back m ls done ts l.1 (sort_word w l.0) (header_end m (sort_word w l.0)) l.2 refl z e in
-      absurd (end_refuses m b.0 w l.0 b.1)
-
-  rule_count_back : (f : Form) (n : ℕ) (ws : List (List ℕ)) (ts : Tokens) → Line ws ts rest → run (progress (with_length (waiting f) n) ls done) ts ≡ Ok z
-      → (r : ℕ) × (r ≤ 256) × (ws ≡ decimal r ∷ []) × (run (progress (headed f n r) ls done) rest ≡ Ok z)
-  rule_count_back f n [] ts l e =
-      let b = turn_back (with_length (waiting f) n) ls done ts rest (line_end l.0) (Err (fault.NoNumber l.0)) l.1 refl z e in
-      absurd (err_ok (fault.NoNumber l.0) b.0 b.1)
-  rule_count_back f n (w ∷ ws) ts l e =
-      let m = with_length (waiting f) n in
-      let b = turn_back m ls done ts l.1 (sort_word w l.0) (rule_count_word m (sort_word w l.0)) l.2 refl z e in
-      let came = wanted_back _ _ b.0 b.1 in
-      let v = natural_back (sort_word w l.0) _ came.0 came.1 in
-      let took = rules_back m b.0 v.0 v.1 (sym (ap (rule_count_word m) v.2) ∙ b.1) in
-      let over = end_back f n v.0 ws l.1 l.3 (ap (λ (u : State). run (progress u ls done) l.1) took.1 ∙ b.2) in
-      (v.0, took.0, (λ i. plain_word w l.0 v.0 v.1 v.2 i ∷ over.0 i), over.1)
-
-  positions_back : (f : Form) (ws : List (List ℕ)) (ts : Tokens) → Line ws ts rest → run (progress (waiting f) ls done) ts ≡ Ok z
-      → (n : ℕ) × (r : ℕ) × (1 ≤ n) × (n ≤ 24) × (r ≤ 256) × (ws ≡ decimal n ∷ decimal r ∷ []) × (run (progress (headed f n r) ls done) rest ≡ Ok z)
-  positions_back f [] ts l e =
-      let b = turn_back (waiting f) ls done ts rest (line_end l.0) (Err (fault.NoNumber l.0)) l.1 refl z e in
-      absurd (err_ok (fault.NoNumber l.0) b.0 b.1)
-  positions_back f (w ∷ ws) ts l e =
-      let m = waiting f in
-      let b = turn_back m ls done ts l.1 (sort_word w l.0) (length_word m (sort_word w l.0)) l.2 refl z e in
-      let came = wanted_back _ _ b.0 b.1 in
-      let v = natural_back (sort_word w l.0) _ came.0 came.1 in
-      let took = length_back m b.0 v.0 v.1 (sym (ap (length_word m) v.2) ∙ b.1) in
-      let after = rule_count_back f v.0 ws l.1 l.3 (ap (λ (u : State). run (progress u ls done) l.1) took.2 ∙ b.2) in
-      (v.0, after.0, took.0, took.1, after.1, (λ i. plain_word w l.0 v.0 v.1 v.2 i ∷ after.2 i), after.3)
-
-  pub header_back : (ws : List (List ℕ)) (ts : Tokens) → Line ws ts rest → run (progress (in_mode mode.Form start) ls done) ts ≡ Ok z → HeaderRead ws ls done rest z
-  header_back [] ts l e =
-      let b = turn_back (in_mode mode.Form start) ls done ts rest (line_end l.0) (Err (fault.Word l.0)) l.1 refl z e in
-      absurd (err_ok (fault.Word l.0) b.0 b.1)
-  header_back (w ∷ ws) ts l e =
-      let m = in_mode mode.Form start in
-      let b = turn_back m ls done ts l.1 (sort_word w l.0) (form_word m (sort_word w l.0)) l.2 refl z e in
-      let f = form_word_back m b.0 w l.0 b.1 in
-      let same : waiting f.0 ≡ b.0 = f.2 in
-      let after = positions_back f.0 ws l.1 l.3 (ap (λ (u : State). run (progress u ls done) l.1) same ∙ b.2) in
-      record {
-        form = f.0;
-        positions = after.0;
-        rules = after.1;
-        words = λ i. f.1 i ∷ after.5 i;
-        some = after.2;
-        short = after.3;
-        few = after.4;
-        onward = after.6;
-      }

@@ -14,6 +14,16 @@ pub mod VariableReads
 pub mod RuleReads
 pub mod LineReads
 pub mod SheetReads
+pub mod OpeningReads
+pub mod Items
+pub mod Places
+pub mod Awaiting
+pub mod Agreeing
+pub mod Beginnings
+pub mod Advancing
+pub mod Passing
+pub mod Coming
 pub mod TextReads
+pub mod Refusals
 pub mod Answering
 pub mod EachOnce

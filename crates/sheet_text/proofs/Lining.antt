@@ -1,12 +1,12 @@
 -- The words of a text against its lines.
-use Rattle.std.proofs.lemmas.Bool.Decides.{nat_tests}
-use Rattle.std.proofs.Common.{All, ◌≡◌, ℕ, ◌+◌, ◌<◌, ◌≤◌, true, false, cond, eqb, leb, ◌⊎◌, List, [], ◌∷◌, ◌++◌, map, sym, refl, ap, ◌∙◌, subst, inl, inr, ⊎_elim, arith}
+use Rattle.std.proofs.Common.{All, ◌≡◌, ℕ, ◌+◌, ◌≤◌, true, false, cond, eqb, List, [], ◌∷◌, ◌++◌, map, sym, refl, ap, ◌∙◌, subst, ⊎_elim, arith}
 use Rattle.std.proofs.lemmas.List.{append_assoc, append-nil}
-use Rattle.std.proofs.lemmas.Bool.{cond-true, cond-false, cases_Bool, eqb-true, eqb-false, leb-true, and_parts, eq-eqb, ne_eqb}
-use Rattle.std.proofs.lemmas.List.Elements.{All-nil, All-cons, All-head, All-tail, All-push, All-weaker}
+use Rattle.std.proofs.lemmas.Bool.{cond-true, cond-false, cases_Bool, eqb-true, eqb-false, eq-eqb, ne_eqb}
+use Rattle.std.proofs.lemmas.List.Elements.{All-nil, All-head, All-tail, All-push, All-weaker}
 use Rattle.sheet_text.specs.Grammar.{Allowed, onto, pieces, non_empty, words_of}
-use Rattle.sheet_text.specs.Words.{line_end, sort_word, Tokens, stop, bad, next, Open, gap, within, closed, more, printable, cut, ended, tokens}
-use Rattle.sheet_text.proofs.Cutting.{on_space, on_line, on_printable, on_bad}
+use Rattle.sheet_text.specs.Words.{line_end, sort_word}
+use Rattle.sheet_text.specs.Cuts.{Tokens, stop, next, Open, gap, within, closed, more, cut, ended, tokens}
+use Rattle.sheet_text.proofs.Cutting.{on_space, on_line, on_printable}
 
 -- The tokens begin with those of a line's words, at some places, and its end.
 abbrev pub Line : List (List ℕ) → Tokens → Tokens → Type 0
@@ -18,11 +18,28 @@ abbrev pub Lined : List (List (List ℕ)) → Tokens → Type 0
 Lined [] ts = ts ≡ stop
 Lined (l ∷ ls) ts = (rest : Tokens) × Line l ts rest × Lined ls rest
 
--- All words are made of bytes that a text may have.
-abbrev pub Clean : Tokens → Type 0
-Clean stop = Unit {0}
-Clean (bad p) = ⊥
-Clean (next w ts) = Clean ts
+-- The tokens begin with those of these lines, and go on with the rest.
+abbrev pub LinedTo : List (List (List ℕ)) → Tokens → Tokens → Type 0
+LinedTo [] ts rest = ts ≡ rest
+LinedTo (l ∷ ls) ts rest = (after : Tokens) × Line l ts after × LinedTo ls after rest
+
+pub lined_to : (ls : List (List (List ℕ))) (ts : Tokens) → Lined ls ts → LinedTo ls ts stop
+lined_to [] ts h = h
+lined_to (l ∷ ls) ts h = (h.0, h.1, lined_to ls h.0 h.2)
+
+-- The tokens begin with those of these words.
+abbrev pub WordsTo : List (List ℕ) → Tokens → Tokens → Type 0
+WordsTo [] ts rest = ts ≡ rest
+WordsTo (w ∷ ws) ts rest = (p : ℕ) × (after : Tokens) × (ts ≡ next (sort_word w p) after) × WordsTo ws after rest
+
+-- A line is its first words, and then the others.
+pub line_split : (xs ys : List (List ℕ)) (ts rest : Tokens) → Line (xs ++ ys) ts rest → (mid : Tokens) × WordsTo xs ts mid × Line ys mid rest
+line_split [] ys ts rest l = (ts, refl, l)
+line_split (x ∷ xs) ys ts rest l = let go = line_split xs ys l.1 rest l.3 in (go.0, (l.0, l.1, l.2, go.1), go.2)
+
+pub words_split : (xs ys : List (List ℕ)) (ts rest : Tokens) → WordsTo (xs ++ ys) ts rest → (mid : Tokens) × WordsTo xs ts mid × WordsTo ys mid rest
+words_split [] ys ts rest l = (ts, refl, l)
+words_split (x ∷ xs) ys ts rest l = let go = words_split xs ys l.1 rest l.3 in (go.0, (l.0, l.1, l.2, go.1), go.2)
 
 -- A byte of a word.
 abbrev Inner : ℕ → Type 0
@@ -48,7 +65,7 @@ before_onto acc b [] = refl
 before_onto acc b (p ∷ ps) = ap (λ l. l ∷ ps) (sym (append_assoc acc (b ∷ []) p))
 
 -- There is always a first piece.
-first_piece : (s : ℕ) (t : List ℕ) → (l : List ℕ) × (ls : List (List ℕ)) × (pieces s t ≡ l ∷ ls)
+pub first_piece : (s : ℕ) (t : List ℕ) → (l : List ℕ) × (ls : List (List ℕ)) × (pieces s t ≡ l ∷ ls)
 first_piece s [] = ([], [], refl)
 first_piece s (b ∷ t) = elim (eqb b s) as (λ c. (l : List ℕ) × (ls : List (List ℕ)) × (cond c ([] ∷ pieces s t) (onto b (pieces s t)) ≡ l ∷ ls)) [ true ↦ ([], pieces s t, refl) | false ↦ first_onto (pieces s t) ]
   where
@@ -137,36 +154,6 @@ lined o p (b ∷ t) a h i =
     (ap (λ acc. before acc (pieces 10 t)) (more-begun o p b) ∙ sym (before_onto (begun o) b (pieces 10 t)) ∙ ap (before (begun o)) (sym (cond-false (eqb b 10) ([] ∷ pieces 10 t) (onto b (pieces 10 t)) nn))) go))
     (cases_Bool (eqb b 10)))
     (cases_Bool (eqb b 32))
-
-closed_clean : (o : Open) (ts : Tokens) → Clean (closed o ts) → Clean ts
-closed_clean gap ts c = c
-closed_clean (within q acc) ts c = c
-
--- A text whose words are clean has no byte that is not allowed.
-pub clean_allowed : (o : Open) (p : ℕ) (t : List ℕ) → Clean (cut o p (ended t)) → All Allowed t
-clean_allowed o p [] c = All-nil Allowed
-clean_allowed o p (b ∷ t) c =
-    ⊎_elim
-    (λ (s : eqb b 32 ≡ true).
-    let is = eqb-true b 32 s in
-    All-cons Allowed b t (inr (omega arith, omega arith)) (clean_allowed gap (p + 1) t (closed_clean o _ (subst Clean (on_space o p b (ended t) is) c))))
-    (λ (ns : eqb b 32 ≡ false). ⊎_elim
-    (λ (n : eqb b 10 ≡ true).
-    let is = eqb-true b 10 n in
-    All-cons Allowed b t (inl is) (clean_allowed gap (p + 1) t (closed_clean o (next (line_end p) (cut gap (p + 1) (ended t))) (subst Clean (on_line o p b (ended t) is) c))))
-    (λ (nn : eqb b 10 ≡ false). ⊎_elim
-    (λ (k : printable b ≡ true).
-    let both = and_parts (leb 32 b) (leb b 126) k in
-    let low = leb-true 32 b both.0 in
-    let high = leb-true b 126 both.1 in
-    All-cons Allowed b t (inr (low, high)) (clean_allowed (more o p b) (p + 1) t (subst Clean (on_printable o p b (ended t) (eqb-false b 32 ns) (eqb-false b 10 nn) low high) c)))
-    (λ (k : printable b ≡ false). absurd (subst Clean (on_bad o p b (ended t) (eqb-false b 32 ns) (eqb-false b 10 nn) (outside k)) c))
-    (cases_Bool (printable b)))
-    (cases_Bool (eqb b 10)))
-    (cases_Bool (eqb b 32))
-  where
-    outside : printable b ≡ false → (b < 32) ⊎ (126 < b)
-    outside k = grind (arith, nat_tests)
 
 pub lined_text : (t : List ℕ) → All Allowed t → Lined (map words_of (pieces 10 t)) (tokens t)
 lined_text t a =

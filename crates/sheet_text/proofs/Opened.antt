@@ -2,7 +2,8 @@
 use Rattle.std.proofs.Common.{◌≡◌, ℕ, None, Ok, Err, Option, Result, sym, refl, ap, subst}
 use Rattle.sheet_text.specs.Words.{Token, letters, number, line_end, place_of, token}
 use Rattle.sheet_text.specs.Keeping.{Went, Gave, Sound, Fits}
-use Rattle.sheet_text.specs.Machine.{open_line, nothing, step_in, opened, begun, literal_word, start_word, first_of}
+use Rattle.sheet_text.specs.Machine.{open_line, nothing, step_in, opened, begun, literal_word, start_word}
+use Rattle.sheet_text.specs.FirstWords.{first_of}
 use Rattle.faults.specs.declared.sheet.SheetFault.{SheetFault}
 use Rattle.sheet_text.specs.declared.state.Mode.{Mode}
 use Rattle.sheet_text.specs.declared.state.Mode.TheVariants as mode

@@ -7,7 +7,8 @@ use Rattle.sheet_text.specs.Lexing.{stream, Drew}
 use Rattle.sheet_text.specs.Machine.{step}
 use Rattle.sheet_text.specs.Reading.{Progress, begin, given, advance, onward, run, finished, whole, ending, read_through}
 use Rattle.sheet_text.specs.Drafts.{Stands, Advanced, Passed}
-use Rattle.sheet_text.specs.Words.{Token, Tokens, stop, bad, next, token, tokens}
+use Rattle.sheet_text.specs.Words.{Token, token}
+use Rattle.sheet_text.specs.Cuts.{Tokens, stop, next, tokens}
 use Rattle.faults.specs.declared.sheet.SheetFault.{SheetFault}
 use Rattle.faults.specs.declared.sheet.SheetFault.TheVariants as fault
 use Rattle.faults.specs.declared.text.TextFault.{TextFault}
@@ -16,7 +17,6 @@ use Rattle.sheet_text.specs.declared.draft.Draft.{Draft}
 use Rattle.sheet_text.specs.declared.lexer.Lexer.{Lexer}
 use Rattle.sheet_text.specs.declared.state.State.{State}
 use Rattle.sheet_text.specs.declared.word.Word.{Word}
-use Rattle.sheet_text.proofs.Lining.{Clean}
 use Rattle.sheet_text.proofs.Steps.{err_ok}
 
 abbrev pub progress : State → List Literal → List (List Literal) → Progress
@@ -27,34 +27,11 @@ pub run_turn : (s u : Progress) (ts rest : Tokens) (w : Token) → ts ≡ next w
 unfolding run
 run_turn s u ts rest w e f = ap (run s) e ∙ ap (λ o. onward o (λ v. run v rest)) f
 
--- What a word did where the run went well.
-pub run_back : (s u : Progress) (ts rest : Tokens) (w : Token) → ts ≡ next w rest → run s ts ≡ Ok u → (v : Progress) × (advance s w ≡ Ok v) × (run v rest ≡ Ok u)
-unfolding run
-run_back s u ts rest w e r = by (advance s w) refl (sym (ap (run s) e) ∙ r)
-  where
-    by : (o : Result Progress SheetFault) → advance s w ≡ o → onward o (λ v. run v rest) ≡ Ok u → (v : Progress) × (advance s w ≡ Ok v) × (run v rest ≡ Ok u)
-    by (Ok v) is r = (v, is, r)
-    by (Err f) is r = absurd (err_ok f u r)
-
-pub run_clean : (s u : Progress) (ts : Tokens) → run s ts ≡ Ok u → Clean ts
-unfolding run
-run_clean s u stop r = tt
-run_clean s u (bad p) r = err_ok (fault.Text (Byte p)) u r
-run_clean s u (next w ts) r = by (advance s w) r (λ v e. run_clean v u ts e)
-  where
-    by : (o : Result Progress SheetFault) → onward o (λ v. run v ts) ≡ Ok u → ((v : Progress) → run v ts ≡ Ok u → Clean ts) → Clean ts
-    by (Ok v) r go = go v r
-    by (Err f) r go = absurd (err_ok f u r)
-
 pub run_over : (s : Progress) (ts : Tokens) → ts ≡ stop → run s ts ≡ Ok s
 unfolding run
 run_over s ts e = ap (run s) e
 
-pub run-stop : (s u : Progress) (ts : Tokens) → ts ≡ stop → run s ts ≡ Ok u → s ≡ u
-unfolding run
-run-stop s u ts e r = let q : ◌≡◌ {A = Result Progress SheetFault} (Ok s) (Ok u) = sym (ap (run s) e) ∙ r in cc q
-
-run_fault : (s : Progress) (ts rest : Tokens) (w : Token) (f : SheetFault) → ts ≡ next w rest → given s (step s.reader w) ≡ Err f → run s ts ≡ Err f
+pub run_fault : (s : Progress) (ts rest : Tokens) (w : Token) (f : SheetFault) → ts ≡ next w rest → given s (step s.reader w) ≡ Err f → run s ts ≡ Err f
 unfolding run
 run_fault s ts rest w f e g = ap (run s) e ∙ ap (λ o. onward o (λ v. run v rest)) g
 

@@ -8,7 +8,7 @@ use Rattle.prefix.specs.declared.kind.Kind.TheVariants.{Report, Reply}
 use Rattle.sheet.specs.declared.form.Form.{Form}
 use Rattle.sheet.specs.declared.form.Form.TheVariants.{Cnf, Dnf}
 use Rattle.sheet_text.specs.Grammar.{form_word, kind_word}
-use Rattle.sheet_text.specs.Machine.{first_word}
+use Rattle.sheet_text.specs.FirstWords.{first_word}
 use Rattle.sheet_text.specs.Wanted.{after, form_of, natural_in}
 use Rattle.sheet_text.specs.Words.{Token, letters, number, line_end, numeral_of, sort_word, sorted}
 use Rattle.faults.specs.declared.sheet.SheetFault.{SheetFault}
@@ -35,6 +35,9 @@ sort_minus v p h ne = ap (sorted (45 ∷ decimal v) p) (numeral_minus (decimal v
 
 pub zero_word : decimal 0 ≡ codes "0"
 zero_word = decimal_digit 0 (omega arith)
+
+pub sort_zero : (p : ℕ) → sort_word (codes "0") p ≡ number (plain 0) p
+sort_zero p = ap (λ (t : List ℕ). sort_word t p) (sym zero_word) ∙ sort_decimal 0 p (omega arith)
 
 -- The letters that begin a line.
 pub sort_c : (p : ℕ) → sort_word (codes "c") p ≡ letters (codes "c") p

@@ -1,5 +1,5 @@
 -- The grammar of a sheet's text: which text says which sheet.
-use Rattle.std.specs.Prelude.{All, ◌≡◌, ℕ, zero, suc, ◌≤◌, Bool, cond, ◌⊎◌, ◌↔◌, List, [], ◌∷◌, ◌++◌, map, length, Ok, codes, decimal, ◌==◌}
+use Rattle.std.specs.Prelude.{All, ◌≡◌, ℕ, zero, suc, ◌≤◌, Bool, cond, ◌⊎◌, List, [], ◌∷◌, ◌++◌, map, length, codes, decimal, ◌==◌}
 use Rattle.prefix.specs.Kinds.{report_count}
 use Rattle.prefix.specs.declared.kind.Kind.{Kind}
 pub use Rattle.prefix.specs.KindWords.{kind_word}
@@ -7,7 +7,7 @@ use Rattle.sheet.specs.Literals.{Distinct}
 use Rattle.sheet.specs.declared.form.Form.{Form}
 pub use Rattle.sheet.specs.FormWords.{form_word}
 use Rattle.sheet.specs.declared.literal.Literal.{Literal}
-use Rattle.sheet_text.specs.Reading.{Sheet, read_text}
+use Rattle.sheet_text.specs.Sheets.{Sheet}
 
 -- A text has line ends (byte 10) and printable characters.
 abbrev pub Allowed : ℕ → Type 0
@@ -123,10 +123,6 @@ pub record Says (t : List ℕ) (s : Sheet) : Type 0 where
   pub positions : Ranges 24 (length s.kinds)
   pub reports : report_count s.kinds ≤ 12
   pub few : length s.rules ≤ 256
-
--- A text is read exactly when it says a sheet, and then as that sheet.
-abbrev pub ReadAsSaid : List ℕ → Type 0
-ReadAsSaid t = (s : Sheet) → (read_text t ≡ Ok s) ↔ Says t s
 
 -- The quantifier lines of a text that says a sheet name each variable from 1 to n, at a position from 1 to n.
 abbrev pub EachNamed : List ℕ → Type 0

@@ -1,6 +1,7 @@
 -- What the lexer does to the words that are left.
 use Rattle.std.specs.Prelude.{◌≡◌, Some, None, Ok, Err, Option, Result}
-use Rattle.sheet_text.specs.Words.{Tokens, stop, bad, next, gap, token, tokens_from}
+use Rattle.sheet_text.specs.Words.{token}
+use Rattle.sheet_text.specs.Cuts.{Tokens, stop, bad, next, gap, tokens_from}
 use Rattle.faults.specs.declared.text.TextFault.{TextFault}
 use Rattle.faults.specs.declared.text.TextFault.TheVariants.{Byte}
 use Rattle.sheet_text.specs.declared.lexer.Lexer.{Lexer}

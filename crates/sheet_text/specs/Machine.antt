@@ -1,10 +1,11 @@
 -- What each word does to the reader, and which fault it is.
-use Rattle.std.specs.Prelude.{ℕ, ◌+◌, ◌-◌, ◌^◌, Bool, true, false, cond, not, ◌&&◌, ◌||◌, List, [], ◌∷◌, replicate, is_some, Some, None, Ok, Err, Option, Result, ◌==◌, bit_or, count_ones, nat_le, nat_lt, slice_index_or, slice_set}
+use Rattle.std.specs.Prelude.{ℕ, ◌+◌, ◌-◌, ◌^◌, Bool, true, false, cond, not, replicate, is_some, Some, None, Ok, Err, Option, Result, ◌==◌, bit_or, count_ones, nat_le, nat_lt, slice_index_or, slice_set}
 use Rattle.prefix.specs.declared.kind.Kind.{Kind}
 use Rattle.prefix.specs.declared.kind.Kind.TheVariants.{Report, Reply}
 use Rattle.sheet.specs.declared.form.Form.{Form}
 use Rattle.sheet.specs.declared.form.Form.TheVariants.{Cnf}
 use Rattle.sheet.specs.declared.literal.Literal.{Literal}
+use Rattle.sheet_text.specs.FirstWords.{first_word}
 use Rattle.sheet_text.specs.Wanted.{after, number_in, natural_in, natural_within, end_in, form_in}
 use Rattle.sheet_text.specs.Words.{Token, letters, number, line_end, place_of}
 use Rattle.faults.specs.declared.sheet.SheetFault.{SheetFault}
@@ -36,33 +37,6 @@ in_mode o m = record { section = m.section; mode = o; form = m.form; length = m.
 
 abbrev pub in_section : Section → State → State
 in_section s m = record { section = s; mode = m.mode; form = m.form; length = m.length; rules = m.rules; variables = m.variables; named = m.named; reports = m.reports; read = m.read }
-
--- Letters are A to Z and a to z.
-abbrev pub is_letter : ℕ → Bool
-is_letter b = (nat_le 65 b && nat_le b 90) || (nat_le 97 b && nat_le b 122)
-
--- A first word that is none of the four letters.
-abbrev pub other_first : ℕ → First
-other_first b = cond (is_letter b) first.Letters first.Other
-
--- A first word of one byte: c, p, a or e, or another.
-abbrev pub letter_first : ℕ → First
-letter_first b =
-    cond (b == 99) first.Comment
-    (cond (b == 112) first.Header
-    (cond (b == 97) (first.Quantifier Report)
-    (cond (b == 101) (first.Quantifier Reply) (other_first b))))
-
--- What a first word says of its line.
-abbrev pub first_word : List ℕ → First
-first_word [] = first.Other
-first_word (b ∷ []) = letter_first b
-first_word (b ∷ c ∷ bs) = other_first b
-
-abbrev pub first_of : Token → First
-first_of (letters t p) = first_word t
-first_of (number n p) = first.Number
-first_of (line_end p) = first.Other
 
 -- A rule begins: every variable is named (6), and a rule more is wanted (7).
 abbrev pub open_rule : State → ℕ → Result State SheetFault

@@ -1,12 +1,12 @@
 -- What the text of a sheet means, or which fault it has.
 use Rattle.std.specs.Prelude.{ℕ, cond, List, [], ◌∷◌, ◌++◌, length, is_some, Some, None, Ok, Err, Option, Result, ◌==◌}
 use Rattle.prefix.specs.Prefixes.{kinds_of}
-use Rattle.prefix.specs.declared.kind.Kind.{Kind}
 use Rattle.sheet.specs.Literals.{lookup}
-use Rattle.sheet.specs.declared.form.Form.{Form}
 use Rattle.sheet.specs.declared.literal.Literal.{Literal}
+use Rattle.sheet_text.specs.Sheets.{Sheet}
 use Rattle.sheet_text.specs.Machine.{start, step}
-use Rattle.sheet_text.specs.Words.{Token, Tokens, stop, bad, next, tokens}
+use Rattle.sheet_text.specs.Words.{Token}
+use Rattle.sheet_text.specs.Cuts.{Tokens, stop, bad, next, tokens}
 use Rattle.faults.specs.declared.sheet.SheetFault.{SheetFault}
 use Rattle.faults.specs.declared.sheet.SheetFault.TheVariants as fault
 use Rattle.faults.specs.declared.text.TextFault.TheVariants.{Byte}
@@ -15,12 +15,6 @@ use Rattle.sheet_text.specs.declared.state.Section.{Section}
 use Rattle.sheet_text.specs.declared.state.Section.TheVariants.{Opening, Quantifiers, Rules}
 use Rattle.sheet_text.specs.declared.taken.Taken.{Taken}
 use Rattle.sheet_text.specs.declared.taken.Taken.TheVariants as taken
-
--- A sheet as a text gives it: the form of its rules, the kinds of its positions, the literals of each rule.
-pub record Sheet : Type 0 where
-  pub form : Form
-  pub kinds : List Kind
-  pub rules : List (List Literal)
 
 -- How far a text is read: the reader, the literals of the rule that it is in, and the rules that are over.
 pub record Progress : Type 0 where

@@ -1,7 +1,7 @@
 // The first word of a line.
 ghost use Rattle.std.specs.Prelude.{◌≡◌};
 ghost use Rattle.sheet_text.specs.Words.{token};
-ghost use Rattle.sheet_text.specs.Machine.{first_word, first_of};
+ghost use Rattle.sheet_text.specs.FirstWords.{first_word, first_of};
 
 use crate::word::Word;
 use prefix::Kind;

@@ -17,7 +17,7 @@ pub(crate) struct Lexer<'a> {
 impl<'a> Lexer<'a> {
     ghost use Rattle.std.specs.Prelude.{◌≡◌};
     ghost use Rattle.sheet_text.specs.Lexing.{stream};
-    ghost use Rattle.sheet_text.specs.Words.{tokens};
+    ghost use Rattle.sheet_text.specs.Cuts.{tokens};
 
     pub(crate) fn new(text: &'a [u8]) -> Lexer<'a>
         ensures { stream result ≡ tokens text.now }

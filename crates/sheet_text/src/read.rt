@@ -1,6 +1,8 @@
 // Reads a sheet from its text.
 ghost use Rattle.sheet_text.specs.Reading.{read_text, read_through};
-ghost use Rattle.sheet_text.specs.Grammar.{EachNamed, ReadAsSaid};
+ghost use Rattle.sheet_text.specs.Grammar.{EachNamed};
+ghost use Rattle.sheet_text.specs.Laws.{ReadAsSaid};
+ghost use Rattle.sheet_text.specs.Laws.{RefusedAsFound};
 ghost use Rattle.sheet_text.specs.Tables.{Outcome, Meant};
 ghost use Rattle.sheet_text.specs.Drafts.{Passed};
 
@@ -47,6 +49,7 @@ fn read_into(text: &[u8], table: &mut [Rule]) -> Result<Reading, SheetFault>
 pub fn read_sheet(text: &[u8], table: &mut [Rule]) -> Result<Reading, SheetFault>
     ensures outcome { Outcome (read_text text.now) result table.old table.new }
     ensures grammar { ReadAsSaid text.now }
+    ensures faults { RefusedAsFound text.now }
     ensures named { EachNamed text.now }
     ensures meant { Meant text.now result table.old table.new }
 {

@@ -12,7 +12,7 @@ use Rattle.sheet.specs.declared.form.Form.{Form}
 use Rattle.sheet.specs.declared.literal.Literal.{Literal}
 use Rattle.sheet.specs.declared.rule.Rule.{Rule}
 use Rattle.sheet_text.specs.Grammar.{Comment, header_line, Variable, order, position_in, Once, placed, Ranges, quantifier_line, rule_line, Says}
-use Rattle.sheet_text.specs.Reading.{Sheet}
+use Rattle.sheet_text.specs.Sheets.{Sheet}
 use Rattle.sheet_writer.specs.Writing.{rising, sheet_of_rules, runs, signed, quantifier_lines, rule_lines, sheet_lines, text_of, written}
 use Rattle.sheet_text.proofs.Naming.{Ranged}
 use Rattle.sheet_text.proofs.RuleReads.{Known}

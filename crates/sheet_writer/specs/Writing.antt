@@ -10,7 +10,7 @@ use Rattle.sheet.specs.declared.form.Form.{Form}
 use Rattle.sheet.specs.declared.literal.Literal.{Literal}
 use Rattle.sheet.specs.declared.rule.Rule.{Rule}
 use Rattle.sheet_text.specs.Grammar.{Quantifier, Signed, header_line, quantifier_line, signed_word, rule_line}
-use Rattle.sheet_text.specs.Reading.{Sheet}
+use Rattle.sheet_text.specs.Sheets.{Sheet}
 
 -- The literals of a rule at the positions 1 to n, in rising position; one past n counts as absent.
 abbrev pub rising : Rule → ℕ → List Literal

@@ -1,10 +1,14 @@
 use Rattle.sheet_text.proofs.Answering.{meant}
 use Rattle.sheet_text.proofs.EachOnce.{each-named}
+use Rattle.sheet_text.proofs.Refusals.{refused_exactly}
 use Rattle.sheet_text.proofs.TextReads.{read_exactly}
 use Rattle.sheet_text.proofs.read.read_sheet.Goals as goal
 
 pub returns-clause-grammar : goal.returns-clause-grammar
 returns-clause-grammar c = read_exactly c.args.text.now
+
+pub returns-clause-faults : goal.returns-clause-faults
+returns-clause-faults c = refused_exactly c.args.text.now
 
 pub returns-clause-named : goal.returns-clause-named
 returns-clause-named c = each-named c.args.text.now

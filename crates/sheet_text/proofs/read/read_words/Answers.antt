@@ -1,7 +1,7 @@
 use Rattle.std.proofs.Common.{◌≡◌, Err, ap, ◌∙◌, rules}
 use Rattle.std.proofs.lemmas.Result.{err_from_is_err_and}
 use Rattle.sheet_text.specs.Lexing.{stream, Drew}
-use Rattle.sheet_text.specs.Words.{stop}
+use Rattle.sheet_text.specs.Cuts.{stop}
 use Rattle.sheet_text.proofs.Running.{going_bad, going_fault, going_on, going_unfinished, going_over, passed_fault, going_counted}
 use Rattle.sheet_text.proofs.read.read_words.Goals as goal
 

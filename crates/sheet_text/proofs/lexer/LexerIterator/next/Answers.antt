@@ -1,5 +1,5 @@
 use Rattle.std.proofs.Common.{◌+◌, sym, ap, ◌∙◌, inl, inr, arith}
-use Rattle.sheet_text.specs.Words.{next, gap, tokens_from}
+use Rattle.sheet_text.specs.Cuts.{next, gap, tokens_from}
 use Rattle.sheet_text.proofs.Cutting.{over, line_drawn, bad_drawn, word_drawn}
 use Rattle.sheet_text.proofs.lexer.LexerIterator.next.Goals as goal
 use Rattle.sheet_text.proofs.lexer.LexerIterator.next.Goals.{then-from-text-via-then-from-text, then-from-text-via-else-from-text+then-text-from-eq10}
