@@ -1,25 +1,25 @@
 -- What is read into a table that is long enough.
-use Rattle.std.proofs.Common.{◌≡◌, ℕ, List, length, take, Ok, Err, Result, sym, refl, ap, ◌∙◌, arith}
+use Rattle.std.proofs.Common.{◌≡◌, ℕ, List, length, take, Ok, Err, Result, sym, ap, ◌∙◌, subst, ⊎_elim, arith}
 use Rattle.std.proofs.lemmas.List.{take_all, length-take}
+use Rattle.std.proofs.lemmas.Bool.{false≢true}
+use Rattle.std.specs.Result.{IsErr, IsErrAnd}
 use Rattle.sheet.specs.Rules.{rules_kept}
 use Rattle.sheet.specs.declared.rule.Rule.{Rule}
-use Rattle.sheet_text.specs.Grammar.{ReadAsSaid}
-use Rattle.sheet_text.specs.Reading.{Sheet, read_text}
-use Rattle.sheet_text.specs.Tables.{Outcome, Meant}
+use Rattle.sheet_text.specs.Refusing.{Refused}
+use Rattle.sheet_text.specs.Tables.{Meant}
 use Rattle.faults.specs.declared.sheet.SheetFault.{SheetFault}
 use Rattle.sheet_text.specs.declared.reading.Reading.{Reading}
 use Rattle.worth.specs.Counts.{count}
 use Rattle.worth.specs.Worth.{worth_of}
 use Rattle.worth.specs.declared.policy_count.PolicyCount.{PolicyCount}
-use Rattle.jobs.specs.Settling.{Counted}
+use Rattle.jobs.specs.Settling.{Counted, Settled}
+use Rattle.jobs.specs.declared.fault.JobFault.{JobFault}
+use Rattle.jobs.specs.declared.fault.JobFault.TheVariants as fault
+use Rattle.jobs.specs.declared.settling.Settlement.{Settlement}
 
 -- A fault is the text's own.
-pub unsaid : (t : List ℕ) (f : SheetFault) (before after : List Rule) → length before ≡ 256 → ReadAsSaid t → Outcome (read_text t) (Err f) before after → read_text t ≡ Err f
-unsaid t f before after all says h = by (read_text t) refl h
-  where
-    by : (o : Result Sheet SheetFault) → read_text t ≡ o → Outcome o (Err f) before after → read_text t ≡ Err f
-    by (Ok s) is h = absurd (omega (arith, h.0, ((says s).0 is).few))
-    by (Err g) is h = is ∙ ap Err (sym h.0)
+pub unsaid : (t : List ℕ) (f : SheetFault) (before after : List Rule) → length before ≡ 256 → Meant t (Err f) before after → Refused t f
+unsaid t f before after all h = ⊎_elim (λ refused. refused) (λ short. let says = short.1.1 in absurd (omega (arith, short.1.2, says.few))) h.1
 
 -- The policies that are counted are those of the sheet that the text says.
 pub said : (t : List ℕ) (reading : Reading) (before after : List Rule) (policies : PolicyCount) → Meant t (Ok reading) before after
@@ -39,3 +39,8 @@ said t reading before after policies h e =
       made = holds.rules;
       policies = e ∙ (λ i. worth_of count (rules_kept (holds.form i) reading.prefix.length (front i)) reading.prefix);
     }
+
+-- The job's fault is the text's, whole.
+pub refused : (t : List ℕ) (f : SheetFault) (r : Result Settlement JobFault) → IsErr r → IsErrAnd r (λ j. j ≡ fault.Sheet f) → Refused t f → Settled t r
+refused t f (Ok s) e is h = absurd (false≢true e)
+refused t f (Err j) e is h = subst (λ j. Settled t (Err j)) (sym is) h

@@ -5,7 +5,8 @@ use Rattle.prefix.specs.declared.prefix.Prefix.{Prefix}
 use Rattle.sheet.specs.Rules.{rules_kept}
 use Rattle.sheet.specs.declared.rule.Rule.{Rule}
 use Rattle.sheet_text.specs.Grammar.{Says}
-use Rattle.sheet_text.specs.Reading.{Sheet, read_text}
+use Rattle.sheet_text.specs.Sheets.{Sheet}
+use Rattle.sheet_text.specs.Refusing.{Refused}
 use Rattle.sheet_text.specs.Tables.{MadeOf}
 use Rattle.worth.specs.Counts.{count}
 use Rattle.worth.specs.Worth.{worth_of}
@@ -23,10 +24,10 @@ pub record Counted (t : List ℕ) (r : Settlement) : Type 0 where
   pub made : MadeOf sheet.rules rules
   pub policies : r.policies ≡ worth_of count (rules_kept sheet.form prefix.length rules) prefix
 
--- The settlement of the sheet that a text says; the reader's fault, whole, where the text says none; or no memory was to be had.
+-- The settlement of the sheet that a text says; the fault that the text has, whole; or no memory was to be had.
 abbrev pub Settled : List ℕ → Result Settlement JobFault → Type 0
 Settled t (Ok r) = Counted t r
-Settled t (Err (fault.Sheet f)) = read_text t ≡ Err f
+Settled t (Err (fault.Sheet f)) = Refused t f
 Settled t (Err fault.Memory) = Unit {0}
 
 -- A settlement as it is printed.

@@ -2,7 +2,7 @@
 ghost use Rattle.std.specs.Prelude.{◌≡◌, length, Some, Err, MatchResult};
 ghost use Rattle.jobs.specs.Inputs.{taken as counted};
 ghost use Rattle.jobs.specs.Settling.{Counted, Settled, settlement_text};
-ghost use Rattle.sheet_text.specs.Reading.{read_text};
+ghost use Rattle.sheet_text.specs.Refusing.{Refused};
 
 use crate::fault::JobFault;
 use crate::input::taken;
@@ -43,7 +43,7 @@ pub fn settle(heap: Global, input: &[u8]) -> Result<Settlement, JobFault>
 // rules that a sheet may have, a refusal is the text's own.
 #[tactic(auto, using(std::proofs::lemmas::Grind::common_steps, crate::proofs::Settled::unsaid))]
 fn settle_in(table: &mut [Rule], text: &[u8]) -> Result<Settlement, SheetFault>
-    ensures { MatchResult result (Counted text.now) (λ f. length table.old ≡ 256 → read_text text.now ≡ Err f) }
+    ensures { MatchResult result (Counted text.now) (λ f. length table.old ≡ 256 → Refused text.now f) }
 {
     let reading = read_sheet(text, table)?;
     let rules = &table[..reading.rules];
