@@ -33,7 +33,7 @@ use Rattle.sheet_text.proofs.Beginnings.{begun_header, begun_variables, begun_ru
 use Rattle.sheet_text.proofs.Given.{in_range}
 use Rattle.sheet_text.proofs.HeaderReads.{waiting, headed, comment_word_lem, form_word_back, length_back, rules_back, end_refuses}
 use Rattle.sheet_text.proofs.LineReads.{letters_quantify, no_letters, sound_rule, knows_rule}
-use Rattle.sheet_text.proofs.Naming.{Knows, knows_more}
+use Rattle.sheet_text.proofs.Naming.{Knows, knows_mode, knows_ruled, knows_more}
 use Rattle.sheet_text.proofs.RuleReads as rule
 use Rattle.sheet_text.proofs.RuleReads.{ruling, number_did, signed-some, zero_only, first_step, rule_opens, Opens, literal_placed}
 use Rattle.sheet_text.proofs.Running.{progress}
@@ -109,12 +109,6 @@ module _ (lines : List (List (List ℕ))) (ls : List Literal) (done : List (List
         (begun_header lines (words ++ w ∷ []) f n v.0 comments range took.0 (λ i. is i ++ plain_word w p v.0 v.1 v.2 i ∷ []), omega (arith, length_push words w)),
         (now, sym (ap (λ (v : Progress). v.literals) b.2) ∙ none, sym (ap (λ (v : Progress). v.rules) b.2) ∙ no_rules),
       )
-
-pub knows_ruled : (m : State) (qs : List Variable) → Knows m qs → Knows (ruled m) qs
-knows_ruled m qs h = grind (arith, nat_tests)
-
-pub knows_mode : (m : State) (o : Mode) (qs : List Variable) → Knows m qs → Knows (in_mode o m) qs
-knows_mode m o qs h = grind (arith, nat_tests)
 
 -- Of what is read, only the rules and the literals say what a word gives.
 given_same : (m n : State) (ls : List Literal) (done : List (List Literal)) (o : Result (State × Option Taken) SheetFault) → given (progress m ls done) o ≡ given (progress n ls done) o

@@ -1,5 +1,4 @@
 -- How the lines of a text are read, section by section.
-use Rattle.std.proofs.lemmas.Bool.Decides.{nat_tests}
 use Rattle.std.proofs.Common.{All, ◌≡◌, ℕ, zero, suc, ◌+◌, ◌<◌, ◌≤◌, false, List, [], ◌∷◌, ◌++◌, map, length, Ok, sym, refl, ap, ◌∙◌, subst, arith}
 use Rattle.std.proofs.lemmas.List.{append_assoc, append-nil}
 use Rattle.std.proofs.lemmas.List.Elements.{All-head, All-tail}
@@ -8,7 +7,7 @@ use Rattle.sheet.specs.Literals.{Distinct}
 use Rattle.sheet.specs.declared.literal.Literal.{Literal}
 use Rattle.sheet_text.specs.Grammar.{non_empty, Variable, kind_word, Signed, rule_line, placed}
 use Rattle.sheet_text.specs.Keeping.{Sound, Named, BlankFrom}
-use Rattle.sheet_text.specs.Machine.{in_mode, opened, open_in}
+use Rattle.sheet_text.specs.Machine.{in_mode, opened, open_in, ruled}
 use Rattle.sheet_text.specs.FirstWords.{first_word}
 use Rattle.sheet_text.specs.Reading.{Progress, given, run}
 use Rattle.sheet_text.specs.Words.{letters, line_end}
@@ -22,7 +21,7 @@ use Rattle.sheet_text.specs.declared.first.First.{First}
 use Rattle.sheet_text.specs.declared.first.First.TheVariants as first
 use Rattle.sheet_text.specs.declared.word.Number.{Number}
 use Rattle.sheet_text.proofs.Lining.{Line, LinedTo, line_split}
-use Rattle.sheet_text.proofs.Naming.{Knows}
+use Rattle.sheet_text.proofs.Naming.{Knows, knows_mode, knows_section, knows_ruled}
 use Rattle.sheet_text.proofs.RuleReads.{Known, ruling, over_rule, rule_forth, open_forth, first_number}
 use Rattle.sheet_text.proofs.Running.{progress}
 use Rattle.sheet_text.proofs.Steps.{err_ok}
@@ -43,12 +42,9 @@ nil_cons e = cc e
 pub blank-line : (m : State) (ls : List Literal) (done : List (List Literal)) (ts rest : Tokens) → m.mode ≡ mode.LineStart → Line [] ts rest → run (progress m ls done) ts ≡ run (progress m ls done) rest
 blank-line m ls done ts rest at l = turn m ls done ts rest (line_end l.0) (Ok m) l.1 (step_in_lem m mode.LineStart (line_end l.0) at) m refl
 
--- A rule changes nothing that the header and the quantifier lines said.
+-- A reader in a rule, and after one, knows what it knew.
 pub knows_rule : (m : State) (qs : List Variable) → Knows m qs → Knows (ruling m) qs
-knows_rule m qs h = grind (arith, nat_tests)
-
-pub knows_over : (m : State) (qs : List Variable) → Knows m qs → Knows (over_rule (ruling m)) qs
-knows_over m qs h = grind (arith, nat_tests)
+knows_rule m qs h = knows_section (in_mode mode.Literals m) Rules qs (knows_mode m mode.Literals qs h)
 
 pub not_opening : {s : Section} → s ≡ Rules → s ≡ Opening → ⊥
 not_opening e f = cc (e, f)
@@ -131,7 +127,7 @@ module _ (qs : List Variable) (rest : Tokens) where
       let xs = map (map (placed qs)) rules in
       let all = named (omega arith) in
       let sr = sound_rule m n.0 n.1 s at late all (omega arith) in
-      let go = rules_forth raw rules (over_rule (ruling m)) (done ++ x ∷ []) l.0 l.2 (tails e) refl (not_opening refl) (λ _. all) (sound_over m sr) (knows_over m qs h) (omega arith) (All-tail (All (Known m.length)) ss rules known) (All-tail Distinct x xs d) in
+      let go = rules_forth raw rules (over_rule (ruling m)) (done ++ x ∷ []) l.0 l.2 (tails e) refl (not_opening refl) (λ _. all) (sound_over m sr) (knows_mode (ruled (ruling m)) mode.LineStart qs (knows_ruled (ruling m) qs (knows_rule m qs h))) (omega arith) (All-tail (All (Known m.length)) ss rules known) (All-tail Distinct x xs d) in
       let over = go.2.over in (
         go.0,
         open_forth m n.0 n.1 at late [] done ts n.2 n.3 all (omega arith)

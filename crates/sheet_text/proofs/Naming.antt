@@ -16,8 +16,10 @@ use Rattle.prefix.specs.declared.kind.Kind.{Kind}
 use Rattle.prefix.specs.declared.kind.Kind.TheVariants.{Report, Reply}
 use Rattle.sheet_text.specs.Grammar.{Variable, variable, one_more, position_in, Once, Ranges}
 use Rattle.sheet_text.specs.Keeping.{position_at}
-use Rattle.sheet_text.specs.Machine.{position_of, reports_with, naming}
+use Rattle.sheet_text.specs.Machine.{position_of, in_mode, in_section, reports_with, naming, ruled}
+use Rattle.sheet_text.specs.declared.state.Mode.{Mode}
 use Rattle.sheet_text.specs.declared.state.State.{State}
+use Rattle.sheet_text.specs.declared.state.Section.{Section}
 use Rattle.sheet_text.specs.declared.variable.Variable as Record
 
 one_more_zero : (k : ℕ) → one_more k ≡ 0 → k ≡ 0
@@ -115,6 +117,16 @@ pub record Knows (m : State) (qs : List Variable) : Type 0 where
 
 pub knows_none : (m : State) → m.named ≡ 0 → m.reports ≡ 0 → ((i : ℕ) → position_at m i ≡ 0) → Knows m []
 knows_none m e r p = grind (arith, nat_tests)
+
+-- What else the reader waits for, and which rule it is in, changes nothing of that.
+pub knows_mode : (m : State) (o : Mode) (qs : List Variable) → Knows m qs → Knows (in_mode o m) qs
+knows_mode m o qs h = grind (arith, nat_tests)
+
+pub knows_section : (m : State) (s : Section) (qs : List Variable) → Knows m qs → Knows (in_section s m) qs
+knows_section m s qs h = grind (arith, nat_tests)
+
+pub knows_ruled : (m : State) (qs : List Variable) → Knows m qs → Knows (ruled m) qs
+knows_ruled m qs h = grind (arith, nat_tests)
 
 pub knows_more : (m : State) (qs : List Variable) (k : Kind) (v : ℕ) → Knows m qs → length m.variables ≡ 24 → m.length ≤ 24
     → Ranges m.length v → position_at m (v - 1) ≡ 0 → Knows (naming m k v) (qs ++ variable k v ∷ [])

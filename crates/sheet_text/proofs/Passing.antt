@@ -19,16 +19,15 @@ use Rattle.sheet_text.specs.declared.state.State.{State}
 use Rattle.sheet_text.specs.declared.state.Section.TheVariants.{Opening, Quantifiers}
 use Rattle.sheet_text.specs.declared.taken.Taken.TheVariants as taken
 use Rattle.sheet_text.specs.declared.word.Number.{Number}
-use Rattle.sheet_text.proofs.Advancing.{knows_mode, knows_ruled}
 use Rattle.sheet_text.proofs.Awaiting.{section_of, some_in, Late, Over, placed_rules, Reflects}
 use Rattle.sheet_text.proofs.Beginnings.{all_front, HeaderLast, VariablesLast, RuleLast, last_line}
 use Rattle.sheet_text.proofs.HeaderReads.{waiting, headed, comment_words, comment_line, form_forth, positions_forth, count_forth}
 use Rattle.sheet_text.proofs.Lining.{Line, LinedTo, WordsTo, words_split}
 use Rattle.sheet_text.proofs.LineReads.{heads, tails, nil_cons, blank-line, section_after, sound_rule, knows_rule}
-use Rattle.sheet_text.proofs.Naming.{Knows}
+use Rattle.sheet_text.proofs.Naming.{Knows, knows_mode, knows_ruled}
 use Rattle.sheet_text.proofs.RuleReads.{Known, ruling, literals_on, zero_word_forth, open_forth, first_literal, first_number}
 use Rattle.sheet_text.proofs.Running.{progress}
-use Rattle.sheet_text.proofs.SheetReads.{sheet_forth, kind-step, knows_in, range_front}
+use Rattle.sheet_text.proofs.SheetReads.{sheet_forth, kind-step, range_front}
 use Rattle.sheet_text.proofs.Spelled.{plain}
 use Rattle.sheet_text.proofs.Steps.{step_sound}
 use Rattle.sheet_text.proofs.OpeningReads.{opening_forth, headed_ready}
@@ -155,7 +154,7 @@ module _ (ts mid rest : Tokens) where
           let sound = quiet_sound m m1 (letters (kind_word k) w.0) (Ok m1) l.sound does refl in
           let all = (all_front (λ (q : Variable). Ranges h.length q.name) qs (map (grammar.variable k) vs) good.range).1 in
           let range = (range_front h.length k vs [] (subst (All (λ (q : Variable). Ranges h.length q.name)) (sym (append-nil (map (grammar.variable k) vs))) all)).0 in
-          let on = variables_on k [] done vs m1 false qs w.1 after w.3 refl sound (knows_in m qs k l.knows) (subst (λ (n : ℕ). All (Ranges n) vs) (sym l.length) range) good.once good.reports in
+          let on = variables_on k [] done vs m1 false qs w.1 after w.3 refl sound (knows_mode m (mode.Variables k false) qs l.knows) (subst (λ (n : ℕ). All (Ranges n) vs) (sym l.length) range) good.once good.reports in
           let o = on.2 in (
             on.0,
             before ∙ turn m [] done mid w.1 (letters (kind_word k) w.0) (Ok m1) (w.2 ∙ ap (λ t. next t w.1) (sort_kind k w.0)) does m1 refl ∙ on.1,

@@ -18,7 +18,7 @@ use Rattle.sheet_text.specs.declared.state.Section.{Section}
 use Rattle.sheet_text.specs.declared.state.Section.TheVariants.{Opening, Quantifiers}
 use Rattle.sheet_text.proofs.Lining.{Line, LinedTo}
 use Rattle.sheet_text.proofs.LineReads.{heads, tails, nil_cons, blank-line, RulesPassed, rules_forth, section_after}
-use Rattle.sheet_text.proofs.Naming.{Ranged, Knows, once_front}
+use Rattle.sheet_text.proofs.Naming.{Ranged, Knows, knows_mode, once_front}
 use Rattle.sheet_text.proofs.RuleReads.{Known}
 use Rattle.sheet_text.proofs.Running.{progress}
 use Rattle.sheet_text.proofs.Turning.{turn}
@@ -31,9 +31,6 @@ not_opening_too e f = cc (e, f)
 -- The first word of a quantifier line opens it.
 pub kind-step : (m : State) (k : Kind) (p : ℕ) → m.mode ≡ mode.LineStart → m.section ≡ Quantifiers → step m (letters (kind_word k) p) ≡ nothing (Ok (in_mode (mode.Variables k false) m))
 kind-step m k p at section = grind (arith, nat_tests)
-
-pub knows_in : (m : State) (qs : List Variable) (k : Kind) → Knows m qs → Knows (in_mode (mode.Variables k false) m) qs
-knows_in m qs k h = grind (arith, nat_tests)
 
 -- The variables of a line before those of later lines.
 order-more : (qs : List Variable) (q : Quantifier) (quants : List Quantifier) → (qs ++ map (variable q.kind) q.variables) ++ order quants ≡ qs ++ order (q ∷ quants)
@@ -69,7 +66,7 @@ pub record Quantifying (m : State) (qs : List Variable) : Type 0 where
   pub sound : Sound m
   pub knows : Knows m qs
 
-fit_next : (m after : State) (qs : List Variable) (q : Quantifier) (quants : List Quantifier) (rules : List (List Signed)) → Fit m qs (q ∷ quants) rules → LineRead m after (qs ++ map (variable q.kind) q.variables)
+fit_next : (m after : State) (qs : List Variable) (q : Quantifier) (quants : List Quantifier) (rules : List (List Signed)) → Fit m qs (q ∷ quants) rules → LineRead m after mode.LineStart (qs ++ map (variable q.kind) q.variables)
     → Fit after (qs ++ map (variable q.kind) q.variables) quants rules
 fit_next m after qs q quants rules f l =
     let to = sym (order-more qs q quants) in
@@ -107,11 +104,11 @@ sheet_forth ((w ∷ ws) ∷ raw) (q ∷ quants) rules m qs ts rest l e h f =
     let does = kind-step m k line.0 h.mode h.section in
     let is : ts ≡ next (letters (kind_word k) line.0) line.1 = line.2 ∙ ap (λ t. next t line.1) (sort_kind k line.0) in
     let to = sym (order-more qs q quants) in
-    let go1 = variables_forth k [] [] l.0 q.variables m1 false qs line.1 line.3 refl (quiet_sound m m1 (letters (kind_word k) line.0) (Ok m1) h.sound does refl) (knows_in m qs k h.knows) (λ _. All-head SomeVariable q quants f.some)
+    let go1 = variables_forth k [] [] l.0 q.variables m1 false qs line.1 line.3 refl (quiet_sound m m1 (letters (kind_word k) line.0) (Ok m1) h.sound does refl) (knows_mode m (mode.Variables k false) qs h.knows) (λ _. All-head SomeVariable q quants f.some)
     (range_front m.length k q.variables (order quants) f.range).0 (once_front (qs ++ map (variable k) q.variables) (order quants) (subst Once to f.once))
     (front_reports (qs ++ map (variable k) q.variables) (order quants) (subst (λ (qs : List Variable). report_count (kinds_in qs) ≤ 12) to f.reports)) in
     let read = go1.2 in
-    let left : LineRead m go1.0 (qs ++ map (variable k) q.variables) = record { form = read.form; length = read.length; rules = read.rules; read = read.read; section = read.section; mode = read.mode; sound = read.sound; knows = read.knows } in
+    let left : LineRead m go1.0 mode.LineStart (qs ++ map (variable k) q.variables) = record { form = read.form; length = read.length; rules = read.rules; read = read.read; section = read.section; mode = read.mode; sound = read.sound; knows = read.knows } in
     let go = sheet_forth raw quants rules go1.0 (qs ++ map (variable k) q.variables) l.0 rest l.2 (tails e) (record { mode = read.mode; section = read.section ∙ h.section; sound = read.sound; knows = read.knows }) (fit_next m go1.0 qs q quants rules f left) in
     let over = go.2.over in (
       go.0,

@@ -16,10 +16,11 @@ use Rattle.sheet_text.specs.Reading.{run}
 use Rattle.sheet_text.specs.Words.{Token, line_end, sort_word}
 use Rattle.sheet_text.specs.Cuts.{Tokens, next}
 use Rattle.faults.specs.declared.sheet.SheetFault.{SheetFault}
+use Rattle.sheet_text.specs.declared.state.Mode.{Mode}
 use Rattle.sheet_text.specs.declared.state.Mode.TheVariants as mode
 use Rattle.sheet_text.specs.declared.state.State.{State}
 use Rattle.sheet_text.proofs.Lining.{Line, WordsTo, line_split}
-use Rattle.sheet_text.proofs.Naming.{Knows, knows_more, knows_reports, once_later}
+use Rattle.sheet_text.proofs.Naming.{Knows, knows_mode, knows_more, knows_reports, once_later}
 use Rattle.sheet_text.proofs.Running.{progress}
 use Rattle.sheet_text.proofs.Steps.{step_sound}
 use Rattle.sheet_text.proofs.Turning.{step_in_lem, turn}
@@ -65,19 +66,16 @@ pub room_report : (m : State) (qs : List Variable) (k : Kind) (v : ℕ) → Know
 room_report m qs Report v h room few = omega (arith, leb-false 12 (ones m.reports) room, knows_reports m qs h, count-kinds qs (variable Report v ∷ []))
 room_report m qs Reply v h room few = omega (arith, count-kinds qs (variable Reply v ∷ []))
 
--- How a line leaves the reader: as it was, but for the variables.
-pub record LineRead (m after : State) (qs : List Variable) : Type 0 where
+-- How variables leave the reader: as it was, but for them and for what it waits for.
+pub record LineRead (m after : State) (o : Mode) (qs : List Variable) : Type 0 where
   pub form : after.form ≡ m.form
   pub length : after.length ≡ m.length
   pub rules : after.rules ≡ m.rules
   pub read : after.read ≡ m.read
   pub section : after.section ≡ m.section
-  pub mode : after.mode ≡ mode.LineStart
+  pub mode : after.mode ≡ o
   pub sound : Sound after
   pub knows : Knows after qs
-
-knows_ended : (m : State) (qs : List Variable) → Knows m qs → Knows (in_mode mode.LineStart (in_mode mode.LineEnd m)) (qs ++ [])
-knows_ended m qs h = subst (λ (qs : List Variable). Knows (in_mode mode.LineStart (in_mode mode.LineEnd m)) qs) (sym (append-nil qs)) (record { positions = h.positions; count = h.count; kinds = h.kinds; mask = h.mask; range = h.range; once = h.once })
 
 -- A step that gives nothing leaves a sound reader.
 pub quiet_sound : (m u : State) (w : Token) (x : Result State SheetFault) → Sound m → step m w ≡ nothing x → x ≡ Ok u → Sound u
@@ -86,41 +84,14 @@ quiet_sound m u w x h does e = step_sound m w u None h (does ∙ ap nothing e)
 pub over_sound : (m : State) → Sound m → m.mode ≡ mode.LineEnd → Sound (in_mode mode.LineStart m)
 over_sound m h at = grind (arith, nat_tests)
 
-line-ended : (m : State) (qs : List Variable) → Sound (in_mode mode.LineEnd m) → Knows m qs → LineRead m (in_mode mode.LineStart (in_mode mode.LineEnd m)) (qs ++ [])
-line-ended m qs s h = record { form = refl; length = refl; rules = refl; read = refl; section = refl; mode = refl; sound = over_sound (in_mode mode.LineEnd m) s refl; knows = knows_ended m qs h }
-
--- A line goes on after a variable.
-line_after : (m after : State) (k : Kind) (v : ℕ) (qs rest : List Variable) → LineRead (naming m k v) after ((qs ++ variable k v ∷ []) ++ rest) → LineRead m after (qs ++ variable k v ∷ rest)
-line_after m after k v qs rest l = record {
-  form = l.form;
-  length = l.length;
-  rules = l.rules;
-  read = l.read;
-  section = l.section;
-  mode = l.mode;
-  sound = l.sound;
-  knows = subst (λ (qs : List Variable). Knows after qs) (append_assoc qs (variable k v ∷ []) rest) l.knows;
-}
-
 -- Whether a line has a variable, once some more are named.
 abbrev pub some_after : Bool → List ℕ → Bool
 some_after some [] = some
 some_after some (v ∷ vs) = true
 
--- How variables leave the reader: as it was, but for them.
-pub record VariablesOn (m after : State) (k : Kind) (some : Bool) (qs : List Variable) : Type 0 where
-  pub form : after.form ≡ m.form
-  pub length : after.length ≡ m.length
-  pub rules : after.rules ≡ m.rules
-  pub read : after.read ≡ m.read
-  pub section : after.section ≡ m.section
-  pub mode : after.mode ≡ mode.Variables k some
-  pub sound : Sound after
-  pub knows : Knows after qs
-
 pub variables_on : (k : Kind) (ls : List Literal) (done : List (List Literal)) (vs : List ℕ) (m : State) (some : Bool) (qs : List Variable) (ts rest : Tokens) → WordsTo (map decimal vs) ts rest
     → m.mode ≡ mode.Variables k some → Sound m → Knows m qs → All (Ranges m.length) vs → Once (qs ++ map (variable k) vs) → report_count (kinds_in (qs ++ map (variable k) vs)) ≤ 12
-    → (after : State) × (run (progress m ls done) ts ≡ run (progress after ls done) rest) × VariablesOn m after k (some_after some vs) (qs ++ map (variable k) vs)
+    → (after : State) × (run (progress m ls done) ts ≡ run (progress after ls done) rest) × LineRead m after (mode.Variables k (some_after some vs)) (qs ++ map (variable k) vs)
 variables_on k ls done [] m some qs ts rest l at s h range once few = (
   m,
   ap (run (progress m ls done)) l,
@@ -157,19 +128,19 @@ module _ (k : Kind) (ls : List Literal) (done : List (List Literal)) (rest : Tok
       (turn m ls done ts after w (variable_word m k true w) is does (in_mode mode.LineEnd m) e, quiet_sound m (in_mode mode.LineEnd m) w _ s does e)
 
   zero_forth : (m : State) (qs : List Variable) (ts : Tokens) → Line (codes "0" ∷ []) ts rest → m.mode ≡ mode.Variables k true → Sound m → Knows m qs
-      → (after : State) × (run (progress m ls done) ts ≡ run (progress after ls done) rest) × LineRead m after qs
+      → (after : State) × (run (progress m ls done) ts ≡ run (progress after ls done) rest) × LineRead m after mode.LineStart qs
   zero_forth m qs ts l at s h =
       let zero = zero_passed m ts l.1 l.0 l.2 at s in
-      let left = line-ended m qs zero.1 h in (
-        in_mode mode.LineStart (in_mode mode.LineEnd m),
-        zero.0 ∙ over_forth (in_mode mode.LineEnd m) ls done rest refl l.1 l.3,
-        record { form = refl; length = refl; rules = refl; read = refl; section = refl; mode = refl; sound = left.sound; knows = subst (λ (qs : List Variable). Knows (in_mode mode.LineStart (in_mode mode.LineEnd m)) qs) (append-nil qs) left.knows },
+      let over = in_mode mode.LineEnd m in (
+        in_mode mode.LineStart over,
+        zero.0 ∙ over_forth over ls done rest refl l.1 l.3,
+        record { form = refl; length = refl; rules = refl; read = refl; section = refl; mode = refl; sound = over_sound over zero.1 refl; knows = knows_mode over mode.LineStart qs (knows_mode m mode.LineEnd qs h) },
       )
 
   pub variables_forth : (vs : List ℕ) (m : State) (some : Bool) (qs : List Variable) (ts : Tokens) → Line (map decimal vs ++ codes "0" ∷ []) ts rest
       → m.mode ≡ mode.Variables k some → Sound m → Knows m qs → (some ≡ false → 1 ≤ length vs) → All (Ranges m.length) vs → Once (qs ++ map (variable k) vs)
       → report_count (kinds_in (qs ++ map (variable k) vs)) ≤ 12
-      → (after : State) × (run (progress m ls done) ts ≡ run (progress after ls done) rest) × LineRead m after (qs ++ map (variable k) vs)
+      → (after : State) × (run (progress m ls done) ts ≡ run (progress after ls done) rest) × LineRead m after mode.LineStart (qs ++ map (variable k) vs)
   variables_forth vs m some qs ts l at s h one range once few =
       let split = line_split (map decimal vs) (codes "0" ∷ []) ts rest l in
       let on = variables_on k ls done vs m some qs ts split.0 split.1 at s h range once few in
