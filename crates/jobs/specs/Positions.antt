@@ -1,15 +1,12 @@
 -- Lines and columns of a text.
-use Rattle.std.specs.Prelude.{All, ◌≡◌, ℕ, ◌+◌, ◌⊎◌, List, [], ◌∷◌, ◌++◌, length, codes, decimal, ◌==◌, ◌≢◌}
+use Rattle.std.specs.Prelude.{All, ◌≡◌, ℕ, ◌+◌, List, ◌++◌, length, codes, decimal, ◌==◌, ◌≢◌}
 use Rattle.std.specs.List.{count_by}
+use Rattle.sheet_text.specs.Places.{WholeLines}
 use Rattle.jobs.specs.declared.position.TextPosition.{TextPosition}
 
 -- How many line ends (byte 10) a list of bytes has.
 abbrev pub line_ends : List ℕ → ℕ
 line_ends bs = count_by (λ b. b == 10) bs
-
--- Whole lines: nothing, or bytes that end with a line end.
-abbrev pub WholeLines : List ℕ → Type 0
-WholeLines bs = (bs ≡ []) ⊎ ((front : List ℕ) × (bs ≡ front ++ 10 ∷ []))
 
 -- Where the end of some bytes is: whole lines, and then the part of a line that stands there. Lines and columns count from 1.
 pub record EndsAt (bytes : List ℕ) (position : TextPosition) : Type 0 where
