@@ -8,10 +8,10 @@
 use faults::SheetFault;
 use jobs::input::MOST_BYTES;
 use jobs::{Explanation, JobFault, settle};
-use std::io::Read;
+use std::io::{ErrorKind, Read};
 
 fn main(rt: HostRuntime) -> anyhow::Result<()> {
-    let input = read_input(&rt);
+    let input = read_input(&rt)?;
     match settle(rt.alloc(), &input) {
         Ok(settlement) => println!(rt; "{settlement}")?,
         // a refusal is an answer; want of memory is a failure
@@ -22,17 +22,21 @@ fn main(rt: HostRuntime) -> anyhow::Result<()> {
 }
 
 // Standard input up to one byte more than counts. A person is told where nothing of
-// it counts: it is missing or breaks off, or it is too long.
-fn read_input(rt: &HostRuntime) -> Vec<u8> {
+// it counts: it is missing or breaks off, or it is too long. Want of memory says
+// nothing of the input, and is a failure here too.
+fn read_input(rt: &HostRuntime) -> anyhow::Result<Vec<u8>> {
     let mut input = Vec::new(rt.alloc());
     let limit = MOST_BYTES as u64 + 1;
     if let Err(error) = rt.stdin().take(limit).read_to_end(&mut input) {
+        if error.kind() == ErrorKind::OutOfMemory {
+            return Err(error.into());
+        }
         input.clear();
         let _ = eprintln!(rt; "the input cannot be read to its end and counts as empty: {error}");
     } else if input.len() > MOST_BYTES {
         let _ = eprintln!(rt; "the input is longer than {MOST_BYTES} bytes and counts as empty");
     }
-    input
+    Ok(input)
 }
 
 fn refuse(rt: &HostRuntime, input: &[u8], fault: SheetFault) -> anyhow::Result<()> {
