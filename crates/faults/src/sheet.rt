@@ -18,12 +18,12 @@ pub enum SheetFault {
     #[error("a wrong, extra or missing word; the lines are comments (c), one header (p cnf or p dnf, two numbers), variables (a or e, ending in 0), rules (ending in 0), in this order")]
     Word { place: usize },
     // of variables, of rules or of reports, or a variable itself
-    #[error("past a limit; 1 to 24 variables, at most 12 of them reports (a), at most 256 rules, no variable above the header's number")]
+    #[error("past a limit; 1 to 24 variables, at most 12 of them reports (a), at most 256 rules, no variable above the header's first number")]
     Limit { place: usize },
     // in the quantifier lines or in one rule
     #[error("a variable named already; each is named once in the quantifier lines (a or e), and at most once in a rule")]
     Repeated { place: usize },
-    #[error("a variable in no quantifier line; each from 1 to the header's number is named in one (a or e) before the first rule")]
+    #[error("a variable in no quantifier line; each from 1 to the header's first number is named in one (a or e) before the first rule")]
     Unnamed { place: usize },
     #[error("not as many rules as the header says; one too many begins here, or the text ends with some missing")]
     RuleCount { place: usize },

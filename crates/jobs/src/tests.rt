@@ -108,7 +108,7 @@ fn refusals_are_explained(rt: HostRuntime) -> Result<(), Fail> {
         ),
         (
             past,
-            "line 3, column 9: past a limit; 1 to 24 variables, at most 12 of them reports (a), at most 256 rules, no variable above the header's number",
+            "line 3, column 9: past a limit; 1 to 24 variables, at most 12 of them reports (a), at most 256 rules, no variable above the header's first number",
         ),
         (
             twice,
@@ -116,7 +116,7 @@ fn refusals_are_explained(rt: HostRuntime) -> Result<(), Fail> {
         ),
         (
             unnamed,
-            "line 3, column 1: a variable in no quantifier line; each from 1 to the header's number is named in one (a or e) before the first rule",
+            "line 3, column 1: a variable in no quantifier line; each from 1 to the header's first number is named in one (a or e) before the first rule",
         ),
         (
             rule_wanted,
