@@ -13,12 +13,12 @@ use thiserror::Error;
 pub enum SheetFault {
     #[error(transparent)]
     Text(TextFault),
-    #[error("no number where one is wanted; 1 to 6 digits, no leading zero, a minus only before a literal other than 0, and 0 to end a quantifier line or a rule")]
+    #[error("no number where one is wanted; 1 to 6 digits, no leading zero, a minus only in a literal other than 0, and 0 to end a quantifier line or a rule")]
     NoNumber { place: usize },
     #[error("a wrong, extra or missing word; the lines are comments (c), one header (p cnf or p dnf, two numbers), variables (a or e, ending in 0), rules (ending in 0), in this order")]
     Word { place: usize },
     // of variables, of rules or of reports, or a variable itself
-    #[error("past a limit; 1 to 24 variables, at most 12 of them reports (a), at most 256 rules, no variable above the header's first number")]
+    #[error("outside a limit; 1 to 24 variables, at most 12 of them reports (a), at most 256 rules, no variable above the header's first number")]
     Limit { place: usize },
     // in the quantifier lines or in one rule
     #[error("a variable named already; each is named once in the quantifier lines (a or e), and at most once in a rule")]
@@ -28,7 +28,7 @@ pub enum SheetFault {
     #[error("not as many rules as the header says; one too many begins here, or the text ends with some missing")]
     RuleCount { place: usize },
     // the caller's table
-    #[error("a table of rules that is too short; it has a place for each rule of the sheet")]
+    #[error("a table of rules that is too short; it needs a place for each rule of the sheet")]
     TableTooShort,
 }
 

@@ -2,10 +2,10 @@
 use Rattle.std.proofs.Common.{◌≡◌, ℕ, List, length, take, Ok, Err, Result, sym, ap, ◌∙◌, subst, ⊎_elim, arith}
 use Rattle.std.proofs.lemmas.List.{take_all, length-take}
 use Rattle.std.proofs.lemmas.Bool.{false≢true}
-use Rattle.std.specs.Result.{IsErr, IsErrAnd}
+use Rattle.std.specs.Result.{IsErr, IsErrAnd, MatchResult}
 use Rattle.sheet.specs.Rules.{rules_kept}
 use Rattle.sheet.specs.declared.rule.Rule.{Rule}
-use Rattle.sheet_text.specs.Refusing.{Refused}
+use Rattle.sheet_text.specs.Refusing.{HasFault}
 use Rattle.sheet_text.specs.Tables.{Meant}
 use Rattle.faults.specs.declared.sheet.SheetFault.{SheetFault}
 use Rattle.sheet_text.specs.declared.reading.Reading.{Reading}
@@ -17,9 +17,14 @@ use Rattle.jobs.specs.declared.fault.JobFault.{JobFault}
 use Rattle.jobs.specs.declared.fault.JobFault.TheVariants as fault
 use Rattle.jobs.specs.declared.settling.Settlement.{Settlement}
 
--- A fault is the text's own.
-pub unsaid : (t : List ℕ) (f : SheetFault) (before after : List Rule) → length before ≡ 256 → Meant t (Err f) before after → Refused t f
-unsaid t f before after all h = ⊎_elim (λ refused. refused) (λ short. let says = short.1.1 in absurd (omega (arith, short.1.2, says.few))) h.1
+-- A fault is the text's own, where the table has a place for each rule that there may be.
+own_fault : (t : List ℕ) (f : SheetFault) (before after : List Rule) → Meant t (Err f) before after → length before ≡ 256 → HasFault t f
+own_fault t f before after h all = ⊎_elim (λ fault. fault) (λ short. let says = short.1.1 in absurd (omega (arith, short.1.2, says.lines.few))) h.1
+
+pub unsaid : (t : List ℕ) (f : SheetFault) (before after : List Rule) (r : Result Settlement SheetFault) → IsErr r → IsErrAnd r (λ g. g ≡ f) → Meant t (Err f) before after
+    → MatchResult r (Counted t) (λ g. length before ≡ 256 → HasFault t g)
+unsaid t f before after (Ok s) e is h = absurd (false≢true e)
+unsaid t f before after (Err g) e is h = subst (λ g. length before ≡ 256 → HasFault t g) (sym is) (own_fault t f before after h)
 
 -- The policies that are counted are those of the sheet that the text says.
 pub said : (t : List ℕ) (reading : Reading) (before after : List Rule) (policies : PolicyCount) → Meant t (Ok reading) before after
@@ -28,7 +33,7 @@ said t reading before after policies h e =
     let s = h.0 in
     let holds = h.2 in
     let front : take 256 (take reading.rules after) ≡ take (length s.rules) after =
-    take_all 256 (take reading.rules after) (simp length-take (omega (arith, h.1.few, holds.count)))
+    take_all 256 (take reading.rules after) (simp length-take (omega (arith, h.1.lines.few, holds.count)))
     ∙ ap (λ (n : ℕ). take n after) holds.count in
     record {
       sheet = s;
@@ -41,6 +46,6 @@ said t reading before after policies h e =
     }
 
 -- The job's fault is the text's, whole.
-pub refused : (t : List ℕ) (f : SheetFault) (r : Result Settlement JobFault) → IsErr r → IsErrAnd r (λ j. j ≡ fault.Sheet f) → Refused t f → Settled t r
+pub refused : (t : List ℕ) (f : SheetFault) (r : Result Settlement JobFault) → IsErr r → IsErrAnd r (λ j. j ≡ fault.Sheet f) → HasFault t f → Settled t r
 refused t f (Ok s) e is h = absurd (false≢true e)
 refused t f (Err j) e is h = subst (λ j. Settled t (Err j)) (sym is) h

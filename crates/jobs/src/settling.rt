@@ -2,7 +2,7 @@
 ghost use Rattle.std.specs.Prelude.{◌≡◌, length, Some, Err, MatchResult};
 ghost use Rattle.jobs.specs.Inputs.{taken as counted};
 ghost use Rattle.jobs.specs.Settling.{Counted, Settled, settlement_text};
-ghost use Rattle.sheet_text.specs.Refusing.{Refused};
+ghost use Rattle.sheet_text.specs.Refusing.{HasFault};
 
 use crate::fault::JobFault;
 use crate::input::taken;
@@ -41,9 +41,8 @@ pub fn settle(heap: Global, input: &[u8]) -> Result<Settlement, JobFault>
 
 // The same in a table of the caller's; where that has a place for each of the 256
 // rules that a sheet may have, a refusal is the text's own.
-#[tactic(auto, using(std::proofs::lemmas::Grind::common_steps, crate::proofs::Settled::unsaid))]
 fn settle_in(table: &mut [Rule], text: &[u8]) -> Result<Settlement, SheetFault>
-    ensures { MatchResult result (Counted text.now) (λ f. length table.old ≡ 256 → Refused text.now f) }
+    ensures { MatchResult result (Counted text.now) (λ f. length table.old ≡ 256 → HasFault text.now f) }
 {
     let reading = read_sheet(text, table)?;
     let rules = &table[..reading.rules];

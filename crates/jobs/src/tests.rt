@@ -100,7 +100,7 @@ fn refusals_are_explained(rt: HostRuntime) -> Result<(), Fail> {
         ),
         (
             letter,
-            "line 4, column 3: no number where one is wanted; 1 to 6 digits, no leading zero, a minus only before a literal other than 0, and 0 to end a quantifier line or a rule",
+            "line 4, column 3: no number where one is wanted; 1 to 6 digits, no leading zero, a minus only in a literal other than 0, and 0 to end a quantifier line or a rule",
         ),
         (
             no_line,
@@ -108,7 +108,7 @@ fn refusals_are_explained(rt: HostRuntime) -> Result<(), Fail> {
         ),
         (
             past,
-            "line 3, column 9: past a limit; 1 to 24 variables, at most 12 of them reports (a), at most 256 rules, no variable above the header's first number",
+            "line 3, column 9: outside a limit; 1 to 24 variables, at most 12 of them reports (a), at most 256 rules, no variable above the header's first number",
         ),
         (
             twice,

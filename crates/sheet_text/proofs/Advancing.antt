@@ -16,7 +16,8 @@ use Rattle.sheet_text.specs.Keeping.{Sound, Fits, position_at}
 use Rattle.sheet_text.specs.Machine.{start, nothing, opened, open_in, open_rule, literal_of, literal_number, literal_word, ruled, variable_word, report_too_many, naming, step, start_word, in_mode, with_length, with_rules, form_word, length_word, rule_count_word, header_end, line_over}
 use Rattle.sheet_text.specs.FirstWords.{first_word}
 use Rattle.sheet_text.specs.Reading.{Progress, given, collected}
-use Rattle.sheet_text.specs.Beginnings.{Header, Quantified, Ruled, Begun, Awaited, opening, comment, form, variable_count, rule_count, line, variable, literal, over, Awaits}
+use Rattle.sheet_text.specs.Grammar.{Header, Quantified, Ruled, Begun}
+use Rattle.sheet_text.specs.Beginnings.{Awaited, opening, comment, form, variable_count, rule_count, line, variable, literal, over, Awaits}
 use Rattle.sheet_text.specs.Words.{Token, letters, number, line_end, place_of, sort_word, numeral_of}
 use Rattle.faults.specs.declared.sheet.SheetFault.{SheetFault}
 use Rattle.faults.specs.declared.sheet.SheetFault.TheVariants as fault

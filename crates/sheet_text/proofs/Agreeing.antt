@@ -13,7 +13,8 @@ use Rattle.sheet_text.specs.Keeping.{Sound, Fits, position_at}
 use Rattle.sheet_text.specs.Machine.{start, nothing, opened, open_in, open_rule, literal_of, literal_number, literal_word, variable_number, variable_word, report_too_many, step, start_word, in_mode, with_length, with_rules, with_form, form_word, length_word, rule_count_word, header_end, line_over}
 use Rattle.sheet_text.specs.FirstWords.{first_word}
 use Rattle.sheet_text.specs.Reading.{Progress, given}
-use Rattle.sheet_text.specs.Beginnings.{Header, Awaited, opening, comment, form, variable_count, rule_count, line, variable, literal, over}
+use Rattle.sheet_text.specs.Grammar.{Header}
+use Rattle.sheet_text.specs.Beginnings.{Awaited, opening, comment, form, variable_count, rule_count, line, variable, literal, over}
 use Rattle.sheet_text.specs.Refusing.{reports_full, wrong_opening, wrong_variable, wrong_literal, wrong_rule, wrong_line, wrong}
 use Rattle.sheet_text.specs.Wanted.{after, number_in, natural_in, natural_within, end_in, form_in}
 use Rattle.sheet_text.specs.Words.{Token, letters, number, line_end, place_of}

@@ -5,7 +5,8 @@ use Rattle.sheet_text.specs.Grammar as grammar
 use Rattle.sheet_text.specs.Grammar.{Variable, Signed, placed}
 use Rattle.sheet_text.specs.Keeping.{Sound}
 use Rattle.sheet_text.specs.Machine.{start, in_mode, with_length, with_rules}
-use Rattle.sheet_text.specs.Beginnings.{Header, Awaited, opening, comment, form, variable_count, rule_count, line, variable, literal, over}
+use Rattle.sheet_text.specs.Grammar.{Header}
+use Rattle.sheet_text.specs.Beginnings.{Awaited, opening, comment, form, variable_count, rule_count, line, variable, literal, over}
 use Rattle.sheet_text.specs.declared.state.Mode.TheVariants as mode
 use Rattle.sheet_text.specs.declared.state.State.{State}
 use Rattle.sheet_text.specs.declared.state.Section.{Section}

@@ -1,11 +1,12 @@
 -- Lines that are as they should be, with a line more.
 use Rattle.std.proofs.Common.{All, ◌≡◌, ℕ, suc, ◌<◌, ◌≤◌, ◌⊎◌, List, [], ◌∷◌, ◌++◌, map, length, sym, refl, ap, ◌∙◌, subst, inl, inr, ⊎_elim, arith}
 use Rattle.std.proofs.lemmas.List.{append_assoc, append-nil, map_push, length_push}
-use Rattle.std.proofs.lemmas.List.Elements.{All-nil, All-cons, All-head, All-tail, All-push}
+use Rattle.std.proofs.lemmas.List.Elements.{All-nil, All-cons, All-head, All-tail, All-push, All-weaker}
 use Rattle.prefix.specs.declared.kind.Kind.{Kind}
+use Rattle.sheet.specs.Literals.{Distinct}
 use Rattle.sheet.specs.declared.form.Form.{Form}
-use Rattle.sheet_text.specs.Grammar.{Comment, header_line, Quantifier, quantifier_line, Signed, rule_line, Variable, variable, order, Ranges}
-use Rattle.sheet_text.specs.Beginnings.{Header, Quantified, Ruled, Begun}
+use Rattle.sheet_text.specs.Grammar.{placed, Comment, header_line, Quantifier, quantifier_line, Signed, rule_line, Variable, variable, order, Ranges}
+use Rattle.sheet_text.specs.Grammar.{Header, Quantified, Ruled, Begun}
 use Rattle.sheet_text.proofs.LineReads.{heads, tails, nil_cons}
 use Rattle.sheet_text.proofs.Naming.{once_front}
 use Rattle.sheet_text.proofs.SheetReads.{SomeVariable, front_reports}
@@ -24,10 +25,10 @@ begun_header lines words f n r comments range few is = record {
   commented = comments;
   positions = range;
   few = few;
-  order = refl;
+  ordered = refl;
   some = All-nil SomeVariable;
   quantified = record { range = All-nil (λ q. Ranges n q.name); once = tt; reports = omega arith };
-  wanted = omega arith;
+  most = omega arith;
   named = λ z. absurd (omega arith);
   ruled = All-nil (Ruled n []);
 }
@@ -50,10 +51,10 @@ module _ (lines : List (List (List ℕ))) (words : List (List ℕ)) (h : Header)
         commented = b.commented;
         positions = b.positions;
         few = b.few;
-        order = ap (λ (qs : List Variable). qs ++ map (variable k) vs) b.order ∙ sym (order_push b.quantifiers q);
+        ordered = ap (λ (qs : List Variable). qs ++ map (variable k) vs) b.ordered ∙ sym (order_push b.quantifiers q);
         some = All-push SomeVariable b.quantifiers q b.some some;
         quantified = good;
-        wanted = omega arith;
+        most = omega arith;
         named = λ z. absurd (omega arith);
         ruled = All-nil (Ruled h.length (qs ++ map (variable k) vs));
       }
@@ -72,10 +73,10 @@ module _ (lines : List (List (List ℕ))) (words : List (List ℕ)) (h : Header)
         commented = b.commented;
         positions = b.positions;
         few = b.few;
-        order = b.order;
+        ordered = b.ordered;
         some = b.some;
         quantified = b.quantified;
-        wanted = omega (arith, length_push rs ss);
+        most = omega (arith, length_push rs ss);
         named = λ _. named;
         ruled = All-push (Ruled h.length qs) rs ss b.ruled good;
       }
@@ -142,11 +143,11 @@ last_line lines words h qs rs b =
     header_last : rs ≡ [] → b.quantifiers ≡ [] → HeaderLast lines words h qs rs
     header_last r q =
         let same = same_last lines b.comments words head (b.spelled ∙ (λ i. b.comments ++ head ∷ (map quantifier_line (q i) ++ map rule_line (r i)))) in
-        record { comments = subst (All Comment) (sym same.0) b.commented; is = same.1; positions = b.positions; few = b.few; none = b.order ∙ ap order q; no_rules = r }
+        record { comments = subst (All Comment) (sym same.0) b.commented; is = same.1; positions = b.positions; few = b.few; none = b.ordered ∙ ap order q; no_rules = r }
 
     variables_last : rs ≡ [] → (quants : List Quantifier) (q : Quantifier) → b.quantifiers ≡ quants ++ q ∷ [] → VariablesLast lines words h qs rs
     variables_last r quants q e =
-        let named : qs ≡ order quants ++ map (variable q.kind) q.variables = b.order ∙ ap order e ∙ order_push quants q in
+        let named : qs ≡ order quants ++ map (variable q.kind) q.variables = b.ordered ∙ ap order e ∙ order_push quants q in
         let good = subst (Quantified h.length) named b.quantified in
         let some = all_front SomeVariable quants (q ∷ []) (subst (All SomeVariable) e b.some) in
         let same = same_last lines (b.comments ++ head ∷ map quantifier_line quants) words (quantifier_line q)
@@ -163,14 +164,14 @@ last_line lines words h qs rs b =
             commented = b.commented;
             positions = b.positions;
             few = b.few;
-            order = refl;
+            ordered = refl;
             some = some.0;
             quantified = record {
               range = (all_front (λ (q : Variable). Ranges h.length q.name) (order quants) (map (variable q.kind) q.variables) good.range).0;
               once = once_front (order quants) (map (variable q.kind) q.variables) good.once;
               reports = front_reports (order quants) (map (variable q.kind) q.variables) good.reports;
             };
-            wanted = omega arith;
+            most = omega arith;
             named = λ z. absurd (omega arith);
             ruled = All-nil (Ruled h.length (order quants));
           };
@@ -200,16 +201,31 @@ last_line lines words h qs rs b =
             commented = b.commented;
             positions = b.positions;
             few = b.few;
-            order = b.order;
+            ordered = b.ordered;
             some = b.some;
             quantified = b.quantified;
-            wanted = omega (arith, many, b.wanted);
+            most = omega (arith, many, b.most);
             named = λ _. b.named (omega (arith, many));
             ruled = ruled.0;
           };
           is = same.1;
           named = b.named (omega (arith, many));
-          more = omega (arith, many, b.wanted);
+          more = omega (arith, many, b.most);
           ruled = All-head (Ruled h.length qs) ss [] ruled.1;
           rules = e;
         }
+
+-- What rules keep to, one by one, and of all of them.
+pub all_known : (n : ℕ) (qs : List Variable) (rs : List (List Signed)) → All (Ruled n qs) rs → All (All (λ l. Ranges n l.variable)) rs
+all_known n qs rs h = All-weaker (Ruled n qs) (All (λ l. Ranges n l.variable)) (λ ss r. r.known) rs h
+
+pub all_distinct : (n : ℕ) (qs : List Variable) (rs : List (List Signed)) → All (Ruled n qs) rs → All Distinct (map (map (placed qs)) rs)
+all_distinct n qs [] h = All-nil Distinct
+all_distinct n qs (ss ∷ rs) h = All-cons Distinct (map (placed qs) ss) (map (map (placed qs)) rs) (All-head (Ruled n qs) ss rs h).distinct (all_distinct n qs rs (All-tail (Ruled n qs) ss rs h))
+
+pub all_ruled : (n : ℕ) (qs : List Variable) (rs : List (List Signed)) → All (All (λ l. Ranges n l.variable)) rs → All Distinct (map (map (placed qs)) rs) → All (Ruled n qs) rs
+all_ruled n qs [] k d = All-nil (Ruled n qs)
+all_ruled n qs (ss ∷ rs) k d =
+    let Known : List Signed → Type 0 = All (λ l. Ranges n l.variable) in
+    let later = map (map (placed qs)) rs in
+    All-cons (Ruled n qs) ss rs (record { known = All-head Known ss rs k; distinct = All-head Distinct (map (placed qs) ss) later d }) (all_ruled n qs rs (All-tail Known ss rs k) (All-tail Distinct (map (placed qs) ss) later d))

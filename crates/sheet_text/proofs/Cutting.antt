@@ -2,7 +2,8 @@ use Rattle.std.proofs.Common.{◌≡◌, ℕ, zero, suc, ◌+◌, ◌-◌, ◌<�
 use Rattle.std.proofs.lemmas.List.{at_drop_more, get_or_append_left, get_or_at, length-append, take_more, length-drop, drop_all, get_or-take, length-take-le}
 use Rattle.std.proofs.lemmas.Bool.{cases_eq, cases_lt}
 use Rattle.std.proofs.lemmas.Bool.Decides.{nat_tests}
-use Rattle.sheet_text.specs.Bytes.{EachBefore, Space, Inner, Printable}
+use Rattle.sheet_text.specs.Places.{Inner}
+use Rattle.sheet_text.specs.Bytes.{EachBefore, Space, Printable}
 use Rattle.sheet_text.specs.Words.{line_end, digits_on, natural_of, sort_word}
 use Rattle.sheet_text.specs.Cuts.{stop, next, bad, Open, gap, within, closed, more, cut, ended, tokens_from}
 

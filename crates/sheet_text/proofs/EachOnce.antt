@@ -5,7 +5,7 @@ use Rattle.std.proofs.lemmas.List.{length-map}
 use Rattle.std.proofs.lemmas.Bool.{cases_Bool, cases_eq, cond-true, eqb-true, eqb-false}
 use Rattle.std.proofs.lemmas.List.Elements.{All-nil, All-cons, All-head, All-tail}
 use Rattle.prefix.specs.declared.kind.Kind.TheVariants.{Reply}
-use Rattle.sheet_text.specs.Grammar.{Variable, variable, order, one_more, position_in, Once, EachNamed}
+use Rattle.sheet_text.specs.Grammar.{Variable, variable, one_more, position_in, Once, EachNamed}
 use Rattle.sheet_text.proofs.Naming.{Ranged, absent_parts, position_after}
 
 -- The order without a variable.
@@ -94,8 +94,9 @@ position_le (q ∷ qs) v =
 
 pub each-named : (t : List ℕ) → EachNamed t
 each-named t s h v range =
-    let qs = order h.quantifiers in
+    let qs = h.variables in
     let n = length s.kinds in
+    let good = h.lines.quantified in
     let long : length qs ≡ n = sym (ap length h.kinds ∙ length-map qs (λ q. q.kind)) in
-    let some : position_in qs v ≡ 0 → ⊥ = λ e. omega (arith, at_most n (variable Reply v ∷ qs) (e, h.once) (All-cons (Ranged n) (variable Reply v) qs range h.named)) in
+    let some : position_in qs v ≡ 0 → ⊥ = λ e. omega (arith, at_most n (variable Reply v ∷ qs) (e, good.once) (All-cons (Ranged n) (variable Reply v) qs range good.range)) in
     (omega arith, omega (arith, position_le qs v))

@@ -1,9 +1,10 @@
--- What stands next in a text: a word, the end of a line, or a byte that no text has.
+-- What stands next in a text: a word, the end of a line, or a byte that is not allowed.
 use Rattle.std.proofs.Common.{All, ◌≡◌, ◌≢◌, ℕ, ◌+◌, ◌<◌, ◌≤◌, false, eqb, ◌⊎◌, List, [], ◌∷◌, ◌++◌, map, length, Some, sym, refl, ap, ◌∙◌, subst, inl, inr, ⊎_elim, arith}
 use Rattle.std.proofs.lemmas.Bool.{cond-true, cases_eq, cases_lt, eq-eqb, ne_eqb}
 use Rattle.std.proofs.lemmas.List.{append_assoc, append-nil, map-append, length-append}
 use Rattle.std.proofs.lemmas.List.Elements.{All-nil, All-push, All-append, All-pop, All-weaker}
-use Rattle.sheet_text.specs.Bytes.{Inner, Printable}
+use Rattle.sheet_text.specs.Places.{Inner}
+use Rattle.sheet_text.specs.Bytes.{Printable}
 use Rattle.sheet_text.specs.Grammar.{Allowed, pieces, non_empty, words_of, lines_of}
 use Rattle.sheet_text.specs.Places.{WholeLines, Before, Separator, BeginsAfter, EndsBefore, WordAt, ByteAt}
 use Rattle.sheet_text.specs.Words.{line_end, sort_word}
@@ -131,7 +132,7 @@ words_more part w begins some inner =
 module _ (front : List ℕ) (lines : List (List (List ℕ))) (words : List (List ℕ)) (h : Before front lines words) where
   -- Where the text ends there, these are its lines.
   lines_over : lines ++ non_empty (words ∷ []) ≡ lines_of front
-  lines_over = cc (line_after h.whole h.part h.over h.inside)
+  lines_over = cc (line_after h.whole h.part h.ended h.inside)
 
   after_space : Before (front ++ 32 ∷ []) lines words
   after_space = record {
@@ -139,7 +140,7 @@ module _ (front : List ℕ) (lines : List (List (List ℕ))) (words : List (List
     part = h.part ++ 32 ∷ [];
     allowed = All-push Allowed front 32 h.allowed (inr (omega arith, omega arith));
     parts = cc (append_assoc h.whole h.part (32 ∷ []));
-    over = h.over;
+    ended = h.ended;
     inside = All-push (λ b. b ≢ 10) h.part 32 h.inside (λ e. omega arith);
     whole_lines = h.whole_lines;
     part_words = cc (words_parted h.part [], append-nil (words_of h.part));
@@ -151,7 +152,7 @@ module _ (front : List ℕ) (lines : List (List (List ℕ))) (words : List (List
     part = [];
     allowed = All-push Allowed front 10 h.allowed (inl refl);
     parts = sym (append-nil (front ++ 10 ∷ []));
-    over = inr (front, refl);
+    ended = inr (front, refl);
     inside = All-nil (λ b. b ≢ 10);
     whole_lines = cc (lines_over, lines_parted front [], append-nil (lines_of front));
     part_words = refl;
@@ -163,7 +164,7 @@ module _ (front : List ℕ) (lines : List (List (List ℕ))) (words : List (List
     part = h.part ++ w;
     allowed = All-append Allowed front w h.allowed allowed;
     parts = cc (append_assoc h.whole h.part w);
-    over = h.over;
+    ended = h.ended;
     inside = All-append (λ b. b ≢ 10) h.part w h.inside (All-weaker Inner (λ b. b ≢ 10) (λ b i. i.1) w inner);
     whole_lines = h.whole_lines;
     part_words = cc (words_more h.part w (part_begins h.whole h.part front h.parts h.inside begins) some inner);
@@ -307,7 +308,7 @@ last_next t lines words before = inr (inr (inr (record {
 pub between_start : (t : List ℕ) → Between t [] t [] []
 between_start t = record {
   text = refl;
-  before = record { whole = []; part = []; allowed = All-nil Allowed; parts = refl; over = inl refl; inside = All-nil (λ b. b ≢ 10); whole_lines = refl; part_words = refl };
+  before = record { whole = []; part = []; allowed = All-nil Allowed; parts = refl; ended = inl refl; inside = All-nil (λ b. b ≢ 10); whole_lines = refl; part_words = refl };
   edge = inl (inl refl);
 }
 

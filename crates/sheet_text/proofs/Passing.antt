@@ -1,9 +1,8 @@
 -- A reader passes what is as it should be, and then waits for what is wanted.
 use Rattle.std.proofs.Common.{All, ◌≡◌, ℕ, zero, suc, ◌<◌, ◌≤◌, true, false, List, [], ◌∷◌, ◌++◌, map, length, Some, Ok, codes, decimal, sym, refl, ap, ◌∙◌, subst, inl, inr, ⊎_elim, arith}
 use Rattle.std.proofs.lemmas.List.{append-nil, map_push, length_push}
-use Rattle.std.proofs.lemmas.List.Elements.{All-nil, All-cons, All-head, All-tail, All-weaker}
+use Rattle.std.proofs.lemmas.List.Elements.{All-head, All-tail}
 use Rattle.prefix.specs.declared.kind.Kind.{Kind}
-use Rattle.sheet.specs.Literals.{Distinct}
 use Rattle.sheet.specs.declared.form.Form.{Form}
 use Rattle.sheet.specs.declared.literal.Literal.{Literal}
 use Rattle.sheet_text.specs.Grammar as grammar
@@ -11,7 +10,8 @@ use Rattle.sheet_text.specs.Grammar.{non_empty, Comment, header_line, quantifier
 use Rattle.sheet_text.specs.Keeping.{Sound}
 use Rattle.sheet_text.specs.Machine.{start, in_mode, ruled, with_length, with_rules}
 use Rattle.sheet_text.specs.Reading.{begin, run}
-use Rattle.sheet_text.specs.Beginnings.{Header, Quantified, Ruled, Begun, Awaited, opening, comment, form, variable_count, rule_count, line, variable, literal, over, Awaits}
+use Rattle.sheet_text.specs.Grammar.{Header, Quantified, Ruled, Begun}
+use Rattle.sheet_text.specs.Beginnings.{Awaited, opening, comment, form, variable_count, rule_count, line, variable, literal, over, Awaits}
 use Rattle.sheet_text.specs.Words.{letters, number, sort_word}
 use Rattle.sheet_text.specs.Cuts.{Tokens, next}
 use Rattle.sheet_text.specs.declared.state.Mode.TheVariants as mode
@@ -20,7 +20,7 @@ use Rattle.sheet_text.specs.declared.state.Section.TheVariants.{Opening, Quantif
 use Rattle.sheet_text.specs.declared.taken.Taken.TheVariants as taken
 use Rattle.sheet_text.specs.declared.word.Number.{Number}
 use Rattle.sheet_text.proofs.Awaiting.{section_of, some_in, Late, Over, placed_rules, Reflects}
-use Rattle.sheet_text.proofs.Beginnings.{all_front, HeaderLast, VariablesLast, RuleLast, last_line}
+use Rattle.sheet_text.proofs.Beginnings.{all_front, all_known, all_distinct, HeaderLast, VariablesLast, RuleLast, last_line}
 use Rattle.sheet_text.proofs.HeaderReads.{waiting, headed, comment_words, comment_line, form_forth, positions_forth, count_forth}
 use Rattle.sheet_text.proofs.Lining.{Line, LinedTo, WordsTo, words_split}
 use Rattle.sheet_text.proofs.LineReads.{heads, tails, nil_cons, blank-line, section_after, sound_rule, knows_rule}
@@ -36,7 +36,7 @@ use Rattle.sheet_text.proofs.VariableReads.{quiet_sound, some_after, variables_o
 use Rattle.sheet_text.proofs.WordReads.{sort_c, sort_p, sort_kind}
 
 -- Comments are passed over.
-comments_forth : (raw comments : List (List (List ℕ))) (ts rest : Tokens) → LinedTo raw ts rest → non_empty raw ≡ comments → All Comment comments → run begin ts ≡ run begin rest
+pub comments_forth : (raw comments : List (List (List ℕ))) (ts rest : Tokens) → LinedTo raw ts rest → non_empty raw ≡ comments → All Comment comments → run begin ts ≡ run begin rest
 comments_forth [] [] ts rest l e c = ap (run begin) l
 comments_forth [] (x ∷ comments) ts rest l e c = absurd (nil_cons e)
 comments_forth ([] ∷ raw) comments ts rest l e c = blank-line start [] [] ts l.0 refl l.1 ∙ comments_forth raw comments l.0 rest l.2 e c
@@ -48,14 +48,6 @@ comments_forth ((w ∷ ws) ∷ raw) (x ∷ comments) ts rest l e c =
     turn start [] [] ts line.1 (letters (codes "c") line.0) (Ok m) (line.2 ∙ ap (λ t. next t line.1) (sort_c line.0)) refl m refl
     ∙ comment_line here.0 [] [] line.1 l.0 line.3 ∙ comments_forth raw comments l.0 rest l.2 (tails e) (All-tail Comment x comments c)
 
--- What every rule keeps to, of all of them.
-pub all_known : (n : ℕ) (qs : List Variable) (rs : List (List Signed)) → All (Ruled n qs) rs → All (All (Known n)) rs
-all_known n qs rs h = All-weaker (Ruled n qs) (All (Known n)) (λ ss r. r.known) rs h
-
-pub all_distinct : (n : ℕ) (qs : List Variable) (rs : List (List Signed)) → All (Ruled n qs) rs → All Distinct (map (map (placed qs)) rs)
-all_distinct n qs [] h = All-nil Distinct
-all_distinct n qs (ss ∷ rs) h = All-cons Distinct (map (placed qs) ss) (map (map (placed qs)) rs) (All-head (Ruled n qs) ss rs h).distinct (all_distinct n qs rs (All-tail (Ruled n qs) ss rs h))
-
 -- The header, quantifier lines and rules are passed, and another line is wanted.
 abbrev pub Passed : Tokens → Tokens → Awaited → Type 0
 Passed ts rest a = (m : State) × (ls : List Literal) × (done : List (List Literal)) × (run begin ts ≡ run (progress m ls done) rest) × Reflects m ls done a
@@ -64,7 +56,7 @@ pub begun_forth : (lines : List (List (List ℕ))) (h : Header) (qs : List Varia
 begun_forth lines h qs rs raw ts rest b l e =
     let n = h.length in
     let o = opening_forth rest raw b.comments h.form n h.rules (map quantifier_line b.quantifiers ++ map rule_line rs) ts l (e ∙ b.spelled) b.commented b.positions.0 b.positions.1 b.few in
-    let ordered : qs ≡ order b.quantifiers = b.order in
+    let ordered : qs ≡ order b.quantifiers = b.ordered in
     let good = subst (Quantified n) ordered b.quantified in
     let ruled = subst (λ (qs : List Variable). All (Ruled n qs) rs) ordered b.ruled in
     let go = sheet_forth o.0 b.quantifiers rs (headed h.form n h.rules) [] o.1 rest o.2 o.3 (headed_ready h.form n h.rules b.positions.1 b.few)
@@ -74,7 +66,7 @@ begun_forth lines h qs rs raw ts rest b l e =
       once = good.once;
       reports = good.reports;
       count = λ some. ap length (sym ordered) ∙ b.named some;
-      few = omega (arith, b.wanted);
+      few = omega (arith, b.most);
       known = all_known n (order b.quantifiers) rs ruled;
       distinct = all_distinct n (order b.quantifiers) rs ruled;
     }) in

@@ -4,7 +4,8 @@ use Rattle.std.proofs.lemmas.Bool.{cases_eq}
 use Rattle.std.proofs.lemmas.List.{append_assoc, append-nil, length-append}
 use Rattle.std.proofs.Math.Seq.{take-append_seam, drop-append_seam}
 use Rattle.std.proofs.lemmas.List.Elements.{All-take, All-drop, All-nil, All-head, All-tail, All-push}
-use Rattle.sheet_text.specs.Bytes.{Inner, Printable}
+use Rattle.sheet_text.specs.Places.{Inner}
+use Rattle.sheet_text.specs.Bytes.{Printable}
 use Rattle.sheet_text.specs.Grammar.{Allowed, pieces, non_empty, words_of, lines_of}
 use Rattle.sheet_text.specs.Places.{WholeLines, Before, Separator, BeginsAfter, EndsBefore, WordAt, LineEndAt, ByteAt}
 use Rattle.sheet_text.specs.Words.{line_end, sort_word}
@@ -176,7 +177,7 @@ pub reached : (t front rest : List ℕ) (lines : List (List (List ℕ))) (words 
 reached t front rest lines words h text edge =
     let parts = h.parts in
     let fair = All_parts Allowed h.whole h.part (subst (All Allowed) parts h.allowed) in
-    let lines_read = whole_reached h.whole (h.part ++ ended rest) h.over fair.0 in
+    let lines_read = whole_reached h.whole (h.part ++ ended rest) h.ended fair.0 in
     let mid = cut gap (length h.whole) (h.part ++ ended rest) in
     let begins : ((h.part ≡ []) ⊎ ((cs : List ℕ) × (h.part ≡ cs ++ 32 ∷ []))) ⊎ EndsBefore rest =
     ⊎_elim (λ (e : BeginsAfter front). inl (part_begins h.whole h.part front parts h.inside e)) (λ (e : EndsBefore rest). inr e) edge in

@@ -1,13 +1,12 @@
 -- A text is refused exactly when a fault stands in it, and then with that one.
 use Rattle.std.proofs.lemmas.Bool.Decides.{nat_tests}
 use Rattle.std.proofs.Common.{All, ◌≡◌, ℕ, zero, suc, ◌⊎◌, ◌↔◌, List, [], ◌∷◌, ◌++◌, map, length, Ok, Err, Result, sym, refl, ap, ◌∙◌, subst, inl, inr, ⊎_elim, arith}
-use Rattle.sheet.specs.declared.literal.Literal.{Literal}
-use Rattle.sheet_text.specs.Grammar.{Allowed, pieces, words_of, lines_of}
+use Rattle.sheet_text.specs.Grammar.{Comment, Header, Begun, Variable, Signed, Allowed, pieces, words_of, lines_of}
 use Rattle.sheet_text.specs.Machine.{step}
 use Rattle.sheet_text.specs.Reading.{Progress, begin, given, run, complete, finished, whole, ending, read_through, sheet_from, read_text}
 use Rattle.sheet_text.specs.Places.{BeginsAfter, EndsBefore, ByteAt}
 use Rattle.sheet_text.specs.Beginnings.{Awaited, opening, comment, form, variable_count, rule_count, line, variable, literal, over, Awaits}
-use Rattle.sheet_text.specs.Refusing.{wrong, wrong_end, FaultInside, FaultAtEnd, Refused}
+use Rattle.sheet_text.specs.Refusing.{wrong, wrong_end, FaultInside, FaultAtEnd, HasFault, Decided}
 use Rattle.sheet_text.specs.Words.{Token, line_end, sort_word}
 use Rattle.sheet_text.specs.Cuts.{Tokens, stop, bad, next, tokens}
 use Rattle.faults.specs.declared.sheet.SheetFault.{SheetFault}
@@ -15,47 +14,52 @@ use Rattle.faults.specs.declared.sheet.SheetFault.TheVariants as fault
 use Rattle.faults.specs.declared.text.TextFault.TheVariants.{Byte}
 use Rattle.sheet_text.specs.declared.state.State.{State}
 use Rattle.sheet_text.specs.declared.state.Section.{Section}
-use Rattle.sheet_text.proofs.Advancing.{Onward}
 use Rattle.sheet_text.proofs.Coming.{Came, text_comes}
 use Rattle.sheet_text.proofs.Agreeing.{forget, agree}
-use Rattle.sheet_text.proofs.Awaiting.{section_of, Reflects}
+use Rattle.sheet_text.proofs.Awaiting.{section_of, Late, Reflects}
 use Rattle.sheet_text.proofs.LineReads.{nil_cons}
-use Rattle.sheet_text.proofs.Lining.{lined_to, lined_text}
-use Rattle.sheet_text.proofs.Passing.{Passed, awaited_forth}
+use Rattle.sheet_text.proofs.Lining.{LinedTo, lined_to, lined_text}
+use Rattle.sheet_text.proofs.Passing.{Passed, awaited_forth, comments_forth, begun_forth}
 use Rattle.sheet_text.proofs.Places.{left_after, reached, byte_token, word_token, line_token}
+use Rattle.sheet_text.proofs.TextReads.{read_exactly}
 use Rattle.sheet_text.proofs.Running.{progress, run_fault, run_over}
 
--- At the end of a text no word is left in its line, so what is wanted is a line.
-end_wrong : (lines : List (List (List ℕ))) (a : Awaited) (m : State) (ls : List Literal) (done : List (List Literal)) (p : ℕ) → Awaits lines [] a → Reflects m ls done a → wrong_end a p ≡ forget (finished p m.section m)
-end_wrong lines opening m ls done p a r = subst (λ (m : State). wrong_end opening p ≡ forget (finished p m.section m)) (sym r.0) refl
-end_wrong lines comment m ls done p a r = absurd (nil_cons a.1.1)
-end_wrong lines form m ls done p a r = absurd (nil_cons a.1)
-end_wrong lines (variable_count f) m ls done p a r = absurd (nil_cons a.1)
-end_wrong lines (rule_count f n) m ls done p a r = absurd (nil_cons a.2)
-end_wrong lines (line h qs rs) m ls done p a r = complete_wrong (length rs) ∙ ap (λ (s : Section). forget (finished p s m)) (sym r.1)
+-- What is wrong with the end of a text is what the reader finds there.
+end_wrong : (m : State) (h : Header) (qs : List Variable) (rs : List (List Signed)) (p : ℕ) → Late m h qs (length rs) → m.section ≡ section_of (length rs) → wrong_end h qs rs p ≡ forget (finished p m.section m)
+end_wrong m h qs rs p l section = by (length rs) ∙ ap (λ (s : Section). forget (finished p s m)) (sym section)
   where
-    compared : wrong_end (line h qs rs) p ≡ forget (complete p m)
-    compared = let l = r.2 in grind (arith, nat_tests, l.read, l.rules, l.length, l.knows.count)
+    compared : wrong_end h qs rs p ≡ forget (complete p m)
+    compared = grind (arith, nat_tests, l.read, l.rules, l.length, l.knows.count)
 
-    complete_wrong : (n : ℕ) → wrong_end (line h qs rs) p ≡ forget (finished p (section_of n) m)
-    complete_wrong zero = compared
-    complete_wrong (suc n) = compared
-end_wrong lines (variable h qs k vs) m ls done p a r = absurd (nil_cons a.2)
-end_wrong lines (literal h qs rs []) m ls done p a r = absurd (omega (arith, a.4))
-end_wrong lines (literal h qs rs (s ∷ ss)) m ls done p a r = absurd (nil_cons a.5)
-end_wrong lines (over h qs rs) m ls done p a r = absurd (omega (arith, a.1))
+    by : (n : ℕ) → wrong_end h qs rs p ≡ forget (finished p (section_of n) m)
+    by zero = compared
+    by (suc n) = compared
+
+-- At the end of a text no word is left in its line, so it is a line that is wanted.
+module _ (t : List ℕ) (f : SheetFault) (z : Progress) (allowed : All Allowed t) where
+  faulty_end : (o : Result (Unit {0}) SheetFault) → sheet_from (whole z o) ≡ Err f → o ≡ Err f
+  faulty_end (Ok u) q = absurd (cc q)
+  faulty_end (Err g) q = let same : g ≡ f = cc q in ap Err same
+
+  at_end : (a : Awaited) → Awaits (lines_of t) [] a → Reflects z.reader z.literals z.rules a → finished (length t) z.reader.section z.reader ≡ Err f → FaultAtEnd t f
+  at_end opening a r e = (allowed, inl (a.0, (let same : ◌≡◌ {A = Result (Unit {0}) SheetFault} (Err (fault.Word (length t))) (Err f) = ap (λ (m : State). finished (length t) m.section m) (sym r.0) ∙ e in cc same)))
+  at_end comment a r e = absurd (nil_cons a.1.1)
+  at_end form a r e = absurd (nil_cons a.1)
+  at_end (variable_count g) a r e = absurd (nil_cons a.1)
+  at_end (rule_count g n) a r e = absurd (nil_cons a.2)
+  at_end (line h qs rs) a r e = (allowed, inr (h, qs, rs, a.0, end_wrong z.reader h qs rs (length t) r.2 r.1 ∙ ap forget e))
+  at_end (variable h qs k vs) a r e = absurd (nil_cons a.2)
+  at_end (literal h qs rs []) a r e = absurd (omega (arith, a.4))
+  at_end (literal h qs rs (s ∷ ss)) a r e = absurd (nil_cons a.5)
+  at_end (over h qs rs) a r e = absurd (omega (arith, a.1))
 
 -- A text that is refused has that fault.
-refused : (t : List ℕ) (f : SheetFault) → read_text t ≡ Err f → Refused t f
+refused : (t : List ℕ) (f : SheetFault) → read_text t ≡ Err f → HasFault t f
 unfolding read_through
 refused t f e = by (run begin (tokens t)) (text_comes t) e
   where
-    at_end : (z : Progress) → All Allowed t → (on : Onward (lines_of t) [] z) → (o : Result (Unit {0}) SheetFault) → wrong_end on.0 (length t) ≡ forget o → sheet_from (whole z o) ≡ Err f → FaultAtEnd t f
-    at_end z allowed on (Ok u) w q = absurd (cc q)
-    at_end z allowed on (Err g) w q = record { awaited = on.0; allowed = allowed; awaits = on.1; fault = w ∙ (let same : g ≡ f = cc q in ap Err same) }
-
-    by : (o : Result Progress SheetFault) → Came t o → sheet_from (ending (length t) o) ≡ Err f → Refused t f
-    by (Ok z) c q = let m = z.reader in inr (at_end z c.0 c.1 (finished (length t) m.section m) (end_wrong (lines_of t) c.1.0 m z.literals z.rules (length t) c.1.1 c.1.2) q)
+    by : (o : Result Progress SheetFault) → Came t o → sheet_from (ending (length t) o) ≡ Err f → HasFault t f
+    by (Ok z) c q = inr (at_end t f z c.0 c.1.0 c.1.1 c.1.2 (faulty_end t f z c.0 (finished (length t) z.reader.section z.reader) q))
     by (Err g) c q = inl (subst (FaultInside t) (let same : g ≡ f = cc q in same) c)
 
 forget_fault : {A : Type 0} (o : Result A SheetFault) (f : SheetFault) → forget o ≡ Err f → o ≡ Err f
@@ -96,16 +100,32 @@ module _ (t : List ℕ) (f : SheetFault) (h : FaultInside t f) where
       h.fault
 
 -- A text that ends too early is refused so.
+module _ (t : List ℕ) (f : SheetFault) (allowed : All Allowed t) where
+  abbrev raw_lines : List (List (List ℕ))
+  raw_lines = map words_of (pieces 10 t)
+
+  wholly_lined : LinedTo raw_lines (tokens t) stop
+  wholly_lined = lined_to raw_lines (tokens t) (lined_text t allowed)
+
+  ended_so : (s : Progress) → run begin (tokens t) ≡ run s stop → finished (length t) s.reader.section s.reader ≡ Err f → read_text t ≡ Err f
+  unfolding read_through
+  ended_so s ran e = ap (λ o. sheet_from (ending (length t) o)) (ran ∙ run_over s stop refl) ∙ ap (λ o. sheet_from (whole s o)) e
+
+  no_header : All Comment (lines_of t) → f ≡ fault.Word (length t) → read_text t ≡ Err f
+  no_header comments is = ended_so begin (comments_forth raw_lines (lines_of t) (tokens t) stop wholly_lined refl comments) (ap Err (sym is))
+
+  unfinished : (h : Header) (qs : List Variable) (rs : List (List Signed)) → Begun (lines_of t) h qs rs → wrong_end h qs rs (length t) ≡ Err f → read_text t ≡ Err f
+  unfinished h qs rs b e =
+      let s = begun_forth (lines_of t) h qs rs raw_lines (tokens t) stop b wholly_lined refl in
+      let m = s.0 in
+      ended_so (progress m s.1 s.2) s.3 (forget_fault (finished (length t) m.section m) f (sym (end_wrong m h qs rs (length t) s.4.2 s.4.1) ∙ e))
+
 fault_at_end : (t : List ℕ) (f : SheetFault) → FaultAtEnd t f → read_text t ≡ Err f
-unfolding read_through
-fault_at_end t f h =
-    let raw = map words_of (pieces 10 t) in
-    let s = awaited_forth h.awaited (lines_of t) [] raw (tokens t) stop stop h.awaits (lined_to raw (tokens t) (lined_text t h.allowed)) refl refl in
-    let p = progress s.0 s.1 s.2 in
-    let m = s.0 in
-    let end : finished (length t) m.section m ≡ Err f = forget_fault (finished (length t) m.section m) f (sym (end_wrong (lines_of t) h.awaited m s.1 s.2 (length t) h.awaits s.4) ∙ h.fault) in
-    ap (λ o. sheet_from (ending (length t) o)) (s.3 ∙ run_over p stop refl) ∙ ap (λ o. sheet_from (whole p o)) end
+fault_at_end t f h = ⊎_elim (λ n. no_header t f h.0 n.0 n.1) (λ u. unfinished t f h.0 u.0 u.1 u.2 u.3 u.4) h.1
 
 -- Both ways.
-pub refused_exactly : (t : List ℕ) (f : SheetFault) → (read_text t ≡ Err f) ↔ Refused t f
+pub refused_exactly : (t : List ℕ) (f : SheetFault) → (read_text t ≡ Err f) ↔ HasFault t f
 refused_exactly t f = (refused t f, ⊎_elim (λ h. faulty_words t f (fault_inside t f h)) (fault_at_end t f))
+
+pub decided : (t : List ℕ) → Decided t
+decided t = (read_text t, read_exactly t, refused_exactly t)

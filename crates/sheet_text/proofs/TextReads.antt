@@ -1,20 +1,18 @@
 -- A text is read exactly when the grammar has it say a sheet, and then as that sheet.
 use Rattle.std.proofs.lemmas.Bool.Decides.{nat_tests}
-use Rattle.std.proofs.Common.{All, ◌≡◌, ℕ, zero, suc, ◌^◌, ◌<◌, ◌≤◌, ◌↔◌, List, [], ◌∷◌, ◌++◌, map, length, Ok, Err, Result, sym, refl, ap, ◌∙◌, subst, arith}
+use Rattle.std.proofs.Common.{All, ◌≡◌, ℕ, zero, suc, ◌^◌, ◌<◌, ◌≤◌, ◌↔◌, List, [], ◌∷◌, map, length, Ok, Err, Result, sym, refl, ap, ◌∙◌, subst, arith}
 use lib.Count.{ones}
 use Rattle.std.proofs.lemmas.List.{length-map}
-use Rattle.std.proofs.lemmas.List.Elements.{All-nil, All-cons, All-head, All-tail}
 use Rattle.prefix.proofs.Positions.{length-kinds}
 use Rattle.prefix.specs.Kinds.{report_count}
 use Rattle.prefix.specs.Limits.{Limits}
 use Rattle.prefix.specs.Prefixes.{kinds_of}
-use Rattle.prefix.specs.declared.kind.Kind.{Kind}
-use Rattle.sheet.specs.Literals.{Distinct}
 use Rattle.sheet_text.specs.Cuts.{stop, tokens}
-use Rattle.sheet_text.specs.Grammar.{Allowed, pieces, words_of, lines_of, header_line, quantifier_line, Signed, rule_line, Variable, order, Once, placed, Ranges, Says}
+use Rattle.sheet_text.specs.Grammar.{header_of, Allowed, pieces, words_of, lines_of, Signed, Variable, placed, Says}
 use Rattle.sheet_text.specs.Reading.{Progress, begin, run, complete, finished, whole, ending, read_through, sheet_of, sheet_from, read_text}
 use Rattle.sheet_text.specs.Sheets.{Sheet}
-use Rattle.sheet_text.specs.Beginnings.{Header, Ruled, Begun, Awaited, opening, comment, form, variable_count, rule_count, line, variable, literal, over, Awaits}
+use Rattle.sheet_text.specs.Grammar.{Header, Begun}
+use Rattle.sheet_text.specs.Beginnings.{Awaited, opening, comment, form, variable_count, rule_count, line, variable, literal, over, Awaits}
 use Rattle.faults.specs.declared.sheet.SheetFault.{SheetFault}
 use Rattle.faults.specs.declared.sheet.SheetFault.TheVariants as fault
 use Rattle.sheet_text.specs.declared.state.State.{State}
@@ -25,8 +23,7 @@ use Rattle.sheet_text.proofs.Coming.{Came, text_comes}
 use Rattle.sheet_text.proofs.LineReads.{nil_cons}
 use Rattle.sheet_text.proofs.Lining.{lined_to, lined_text}
 use Rattle.sheet_text.proofs.Naming.{Knows, knows_reports}
-use Rattle.sheet_text.proofs.Passing.{all_known, all_distinct, begun_forth}
-use Rattle.sheet_text.proofs.RuleReads.{Known}
+use Rattle.sheet_text.proofs.Passing.{begun_forth}
 use Rattle.sheet_text.proofs.Running.{progress, run_over}
 use Rattle.sheet_text.proofs.Steps.{err_ok}
 use Rattle.sheet_text.proofs.VariableReads.{kinds_in}
@@ -77,32 +74,19 @@ lines_say t z h qs rs allowed b l done end =
     let k = l.knows in
     let q-is : length qs ≡ m.length = sym k.count ∙ end.named in
     let kinds-is : kinds_of m.length m.reports ≡ kinds_in qs = ap (λ (n : ℕ). kinds_of n m.reports) (sym q-is) ∙ k.kinds in
-    let long : length (kinds_of m.length m.reports) ≡ m.length = length-kinds m.length m.reports in
-    let long-is : length (kinds_of m.length m.reports) ≡ h.length = long ∙ l.length in
-    let rules-is : length z.rules ≡ h.rules = ap length done ∙ length-map rs (map (placed qs)) ∙ sym l.read ∙ end.read ∙ l.rules in
-    let ordered : qs ≡ order b.quantifiers = b.order in
-    let good = b.quantified in
-    let mask : m.reports < 2 ^ m.length = subst (λ (n : ℕ). m.reports < 2 ^ n) q-is k.mask in
-    let reports : report_count (kinds_of m.length m.reports) ≤ 12 = subst (λ (ks : List Kind). report_count ks ≤ 12) (sym kinds-is) good.reports in (
+    let long : length (kinds_of m.length m.reports) ≡ h.length = length-kinds m.length m.reports ∙ l.length in
+    let many : length z.rules ≡ h.rules = ap length done ∙ length-map rs (map (placed qs)) ∙ sym l.read ∙ end.read ∙ l.rules in
+    let header : h ≡ header_of (sheet_of z) = λ i. record { form = sym l.form i; length = sym long i; rules = sym many i } in
+    let mask : m.reports < 2 ^ m.length = subst (λ (n : ℕ). m.reports < 2 ^ n) q-is k.mask in (
       record {
-        comments = b.comments;
-        quantifiers = b.quantifiers;
+        variables = qs;
         rules = rs;
         allowed = allowed;
-        lines = b.spelled ∙ (λ i. b.comments ++ header_line (sym l.form i) (sym long-is i) (sym rules-is i) ∷ (map quantifier_line b.quantifiers ++ map rule_line rs));
-        commented = b.commented;
-        some = b.some;
-        kinds = kinds-is ∙ ap kinds_in ordered;
-        named = subst (λ (qs : List Variable). All (λ q. Ranges (length (kinds_of m.length m.reports)) q.name) qs) ordered (subst (λ (n : ℕ). All (λ q. Ranges n q.name) qs) (sym long-is) good.range);
-        once = subst Once ordered good.once;
-        literals = done ∙ ap (λ (qs : List Variable). placed_rules qs rs) ordered;
-        known = subst (λ (n : ℕ). All (All (Known n)) rs) (sym long-is) (all_known h.length qs rs b.ruled);
-        distinct = subst (All Distinct) (sym done) (all_distinct h.length qs rs b.ruled);
-        positions = (omega (arith, b.positions.0, long-is), omega (arith, b.positions.1, long-is));
-        reports = reports;
-        few = omega (arith, rules-is, b.few);
+        lines = subst (λ (h : Header). Begun (lines_of t) h qs rs) header b;
+        kinds = kinds-is;
+        literals = done;
       },
-      (omega (arith, b.positions.0, l.length), omega (arith, b.positions.1, l.length), mask, reports_few m qs k good.reports),
+      (omega (arith, b.positions.0, l.length), omega (arith, b.positions.1, l.length), mask, reports_few m qs k b.quantified.reports),
     )
   where
     reports_few : (m : State) (qs : List Variable) → Knows m qs → report_count (kinds_in qs) ≤ 12 → ones m.reports ≤ 12
@@ -128,39 +112,13 @@ read-says t z e =
     by (literal h qs rs (s ∷ ss)) a r allowed end = absurd (nil_cons a.5)
     by (over h qs rs) a r allowed end = absurd (omega (arith, a.1))
 
-all_ruled : (n : ℕ) (qs : List Variable) (rs : List (List Signed)) → All (All (Known n)) rs → All Distinct (map (map (placed qs)) rs) → All (Ruled n qs) rs
-all_ruled n qs [] k d = All-nil (Ruled n qs)
-all_ruled n qs (ss ∷ rs) k d =
-    let later = map (map (placed qs)) rs in
-    All-cons (Ruled n qs) ss rs (record { known = All-head (All (Known n)) ss rs k; distinct = All-head Distinct (map (placed qs) ss) later d }) (all_ruled n qs rs (All-tail (All (Known n)) ss rs k) (All-tail Distinct (map (placed qs) ss) later d))
-
--- The lines of a text that says a sheet are as they should be.
-says_begun : (t : List ℕ) (s : Sheet) (h : Says t s) → Begun (lines_of t) (record { form = s.form; length = length s.kinds; rules = length s.rules }) (order h.quantifiers) h.rules
-says_begun t s h =
-    let qs = order h.quantifiers in
-    let many : length h.rules ≡ length s.rules = sym (ap length h.literals ∙ length-map h.rules (map (placed qs))) in
-    record {
-      comments = h.comments;
-      quantifiers = h.quantifiers;
-      spelled = h.lines;
-      commented = h.commented;
-      positions = h.positions;
-      few = h.few;
-      order = refl;
-      some = h.some;
-      quantified = record { range = h.named; once = h.once; reports = subst (λ (ks : List Kind). report_count ks ≤ 12) h.kinds h.reports };
-      wanted = omega arith;
-      named = λ _. sym (ap length h.kinds ∙ length-map qs (λ q. q.kind));
-      ruled = all_ruled (length s.kinds) qs h.rules h.known (subst (All Distinct) h.literals h.distinct);
-    }
-
 -- A text that says a sheet is read as that sheet.
 pub says-read : (t : List ℕ) (s : Sheet) → Says t s → (z : Progress) × (read_through t ≡ Ok z) × (sheet_of z ≡ s)
 unfolding read_through
 says-read t s h =
-    let qs = order h.quantifiers in
+    let qs = h.variables in
     let raw = map words_of (pieces 10 t) in
-    let p = begun_forth (lines_of t) (record { form = s.form; length = length s.kinds; rules = length s.rules }) qs h.rules raw (tokens t) stop (says_begun t s h) (lined_to raw (tokens t) (lined_text t h.allowed)) refl in
+    let p = begun_forth (lines_of t) (header_of s) qs h.rules raw (tokens t) stop h.lines (lined_to raw (tokens t) (lined_text t h.allowed)) refl in
     let m = p.0 in
     let z = progress m p.1 p.2 in
     let l = p.4.2 in

@@ -1,43 +1,9 @@
--- How a text may begin, and what is wanted after each beginning.
+-- What is wanted after each beginning of a text.
 use Rattle.std.specs.Prelude.{All, ◌≡◌, ℕ, ◌<◌, ◌≤◌, List, [], ◌∷◌, ◌++◌, map, length, codes, decimal}
-use Rattle.prefix.specs.Kinds.{report_count}
 use Rattle.prefix.specs.declared.kind.Kind.{Kind}
-use Rattle.sheet.specs.Literals.{Distinct}
 use Rattle.sheet.specs.declared.form.Form.{Form}
-use Rattle.sheet_text.specs.Grammar.{Comment, header_line, Quantifier, quantifier_line, Signed, signed_word, rule_line, Variable, order, Once, placed, Ranges, kind_word, form_word}
+use Rattle.sheet_text.specs.Grammar.{Header, Quantified, Ruled, Begun, Comment, Signed, signed_word, Variable, Ranges, kind_word, form_word}
 use Rattle.sheet_text.specs.Grammar as grammar
-
--- What the header says.
-pub record Header : Type 0 where
-  pub form : Form
-  pub length : ℕ
-  pub rules : ℕ
-
--- Variables as quantifier lines may name them.
-pub record Quantified (n : ℕ) (qs : List Variable) : Type 0 where
-  pub range : All (λ q. Ranges n q.name) qs
-  pub once : Once qs
-  pub reports : report_count (map (λ q. q.kind) qs) ≤ 12
-
--- Literals as a rule may have them.
-pub record Ruled (n : ℕ) (qs : List Variable) (ls : List Signed) : Type 0 where
-  pub known : All (λ l. Ranges n l.variable) ls
-  pub distinct : Distinct (map (placed qs) ls)
-
--- Lines that are as they should be, as far as they go: comments, the header h, quantifier lines that name the variables qs, and rules. Where there is a rule, every variable is named.
-pub record Begun (lines : List (List (List ℕ))) (h : Header) (qs : List Variable) (rules : List (List Signed)) : Type 0 where
-  pub comments : List (List (List ℕ))
-  pub quantifiers : List Quantifier
-  pub spelled : lines ≡ comments ++ header_line h.form h.length h.rules ∷ (map quantifier_line quantifiers ++ map rule_line rules)
-  pub commented : All Comment comments
-  pub positions : Ranges 24 h.length
-  pub few : h.rules ≤ 256
-  pub order : qs ≡ grammar.order quantifiers
-  pub some : All (λ q. 1 ≤ length q.variables) quantifiers
-  pub quantified : Quantified h.length qs
-  pub wanted : length rules ≤ h.rules
-  pub named : 1 ≤ length rules → length qs ≡ h.length
-  pub ruled : All (Ruled h.length qs) rules
 
 -- What is wanted next: before the header the first word of a line, in a comment any word, in the header its words; after it the first word of a line, in a quantifier line a variable or 0, in a rule a literal or 0; and then the end of the line.
 pub data Awaited : Type 0 where

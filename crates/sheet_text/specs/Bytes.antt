@@ -1,12 +1,8 @@
--- Kinds of bytes.
-use Rattle.std.specs.Prelude.{◌≡◌, ℕ, ◌<◌, ◌≤◌, ◌≢◌, ◌⊎◌, List, length, slice_index}
+-- What the lexer finds in a stretch of bytes.
+use Rattle.std.specs.Prelude.{◌≡◌, ℕ, ◌<◌, ◌≤◌, ◌⊎◌, List, length, slice_index}
 
 abbrev pub Space : ℕ → Type 0
 Space b = b ≡ 32
-
--- A byte that ends no word.
-abbrev pub Inner : ℕ → Type 0
-Inner b = (b ≢ 32) × (b ≢ 10)
 
 -- A byte that a text may have besides the line end.
 abbrev pub Printable : ℕ → Type 0

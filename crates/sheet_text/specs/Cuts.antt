@@ -2,7 +2,7 @@
 use Rattle.std.specs.Prelude.{ℕ, ◌+◌, Bool, cond, ◌&&◌, List, [], ◌∷◌, ◌++◌, drop, ◌==◌, nat_le}
 use Rattle.sheet_text.specs.Words.{Token, line_end, sort_word}
 
--- The words of a text in order, up to its end or to a byte that no text has.
+-- The words of a text in order, up to its end or to a byte that is not allowed.
 pub data Tokens : Type 0 where
   stop : Tokens
   bad : ℕ → Tokens

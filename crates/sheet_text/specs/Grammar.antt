@@ -9,15 +9,16 @@ pub use Rattle.sheet.specs.FormWords.{form_word}
 use Rattle.sheet.specs.declared.literal.Literal.{Literal}
 use Rattle.sheet_text.specs.Sheets.{Sheet}
 
--- A text has line ends (byte 10) and printable characters.
+-- Line ends (byte 10) and printable characters are allowed.
 abbrev pub Allowed : ℕ → Type 0
 Allowed b = (b ≡ 10) ⊎ ((32 ≤ b) × (b ≤ 126))
 
--- The stretches of a list of bytes between the bytes s; there is one more of them than of those.
+-- A byte at the front of the first of some stretches.
 abbrev pub onto : ℕ → List (List ℕ) → List (List ℕ)
 onto b [] = (b ∷ []) ∷ []
 onto b (w ∷ ws) = (b ∷ w) ∷ ws
 
+-- The stretches of a list of bytes between the bytes s; there is one more of them than of those.
 abbrev pub pieces : ℕ → List ℕ → List (List ℕ)
 pieces s [] = [] ∷ []
 pieces s (b ∷ bs) = cond (b == s) ([] ∷ pieces s bs) (onto b (pieces s bs))
@@ -100,30 +101,51 @@ placed qs l = record { position = position_in qs l.variable; wanted = l.wanted }
 abbrev pub Ranges : ℕ → ℕ → Type 0
 Ranges n v = (1 ≤ v) × (v ≤ n)
 
--- The text t says the sheet s: its lines are comments, the header, quantifier lines and rules, in that order.
--- The quantifier lines name n variables, all different and from 1 to n.
-pub record Says (t : List ℕ) (s : Sheet) : Type 0 where
+-- What the header says.
+pub record Header : Type 0 where
+  pub form : Form
+  pub length : ℕ
+  pub rules : ℕ
+
+-- Variables as quantifier lines may name them.
+pub record Quantified (n : ℕ) (qs : List Variable) : Type 0 where
+  pub range : All (λ q. Ranges n q.name) qs
+  pub once : Once qs
+  pub reports : report_count (map (λ q. q.kind) qs) ≤ 12
+
+-- Literals as a rule may have them.
+pub record Ruled (n : ℕ) (qs : List Variable) (ls : List Signed) : Type 0 where
+  pub known : All (λ l. Ranges n l.variable) ls
+  pub distinct : Distinct (map (placed qs) ls)
+
+-- Lines that are as they should be, as far as they go: comments, the header h, quantifier lines that name the variables qs, and rules. Where there is a rule, every variable is named.
+pub record Begun (lines : List (List (List ℕ))) (h : Header) (qs : List Variable) (rules : List (List Signed)) : Type 0 where
   pub comments : List (List (List ℕ))
   pub quantifiers : List Quantifier
-  pub rules : List (List Signed)
-  -- its bytes, and its lines
-  pub allowed : All Allowed t
-  pub lines : lines_of t ≡ comments ++ header_line s.form (length s.kinds) (length s.rules) ∷ (map quantifier_line quantifiers ++ map rule_line rules)
+  pub spelled : lines ≡ comments ++ header_line h.form h.length h.rules ∷ (map quantifier_line quantifiers ++ map rule_line rules)
   pub commented : All Comment comments
-  -- the quantifier lines give the kinds of the positions
+  pub positions : Ranges 24 h.length
+  pub few : h.rules ≤ 256
+  pub ordered : qs ≡ order quantifiers
   pub some : All (λ q. 1 ≤ length q.variables) quantifiers
-  pub kinds : s.kinds ≡ map (λ q. q.kind) (order quantifiers)
-  pub named : All (λ q. Ranges (length s.kinds) q.name) (order quantifiers)
-  pub once : Once (order quantifiers)
-  -- the rules give the literals
-  pub literals : s.rules ≡ map (map (placed (order quantifiers))) rules
-  pub known : All (All (λ l. Ranges (length s.kinds) l.variable)) rules
-  pub distinct : All Distinct s.rules
-  -- the limits
-  pub positions : Ranges 24 (length s.kinds)
-  pub reports : report_count s.kinds ≤ 12
-  pub few : length s.rules ≤ 256
+  pub quantified : Quantified h.length qs
+  pub most : length rules ≤ h.rules
+  pub named : 1 ≤ length rules → length qs ≡ h.length
+  pub ruled : All (Ruled h.length qs) rules
 
--- The quantifier lines of a text that says a sheet name each variable from 1 to n, at a position from 1 to n.
+-- The header of a sheet's text.
+abbrev pub header_of : Sheet → Header
+header_of s = record { form = s.form; length = length s.kinds; rules = length s.rules }
+
+-- The text t says the sheet s: its lines are as they should be, under the header of s, and none is missing. The variables give the kinds of the positions, and the rules their literals.
+pub record Says (t : List ℕ) (s : Sheet) : Type 0 where
+  pub variables : List Variable
+  pub rules : List (List Signed)
+  pub allowed : All Allowed t
+  pub lines : Begun (lines_of t) (header_of s) variables rules
+  pub kinds : s.kinds ≡ map (λ q. q.kind) variables
+  pub literals : s.rules ≡ map (map (placed variables)) rules
+
+-- A text that says a sheet names each variable from 1 to n, at a position from 1 to n.
 abbrev pub EachNamed : List ℕ → Type 0
-EachNamed t = (s : Sheet) (h : Says t s) (v : ℕ) → Ranges (length s.kinds) v → Ranges (length s.kinds) (position_in (order h.quantifiers) v)
+EachNamed t = (s : Sheet) (h : Says t s) (v : ℕ) → Ranges (length s.kinds) v → Ranges (length s.kinds) (position_in h.variables v)

@@ -1,24 +1,26 @@
 -- What stands before a place of a text, and what stands there.
 use Rattle.std.specs.Prelude.{All, ◌≡◌, ℕ, ◌+◌, ◌≤◌, ◌⊎◌, List, [], ◌∷◌, ◌++◌, length, ◌≢◌}
-use Rattle.sheet_text.specs.Bytes.{Inner}
 use Rattle.sheet_text.specs.Grammar.{Allowed, words_of, lines_of}
 
 -- Nothing, or bytes that end with a line end.
 abbrev pub WholeLines : List ℕ → Type 0
 WholeLines bs = (bs ≡ []) ⊎ ((front : List ℕ) × (bs ≡ front ++ 10 ∷ []))
 
--- What stands before a place of a text: bytes that are allowed, which are the lines that are over, where one without words does not count, and the words of the line that is open.
+-- What stands before a place of a text, of bytes that are allowed: the lines that are over there, where one without words does not count, and the words of the line that is open.
 pub record Before (front : List ℕ) (lines : List (List (List ℕ))) (words : List (List ℕ)) : Type 0 where
   pub whole : List ℕ
   pub part : List ℕ
   pub allowed : All Allowed front
   pub parts : front ≡ whole ++ part
-  pub over : WholeLines whole
+  pub ended : WholeLines whole
   pub inside : All (λ b. b ≢ 10) part
   pub whole_lines : lines ≡ lines_of whole
   pub part_words : words ≡ words_of part
 
--- What parts words.
+-- A byte of a word, and one that parts words.
+abbrev pub Inner : ℕ → Type 0
+Inner b = (b ≢ 32) × (b ≢ 10)
+
 abbrev pub Separator : ℕ → Type 0
 Separator b = (b ≡ 32) ⊎ (b ≡ 10)
 
@@ -40,7 +42,7 @@ pub record WordAt (t front word : List ℕ) : Type 0 where
   pub inner : All Inner word
   pub allowed : All Allowed word
 
--- A line ends there, with the text or before it.
+-- A line ends there: the text does, or a byte 10 follows.
 abbrev pub LineEndAt : List ℕ → List ℕ → Type 0
 LineEndAt t front = (t ≡ front) ⊎ ((rest : List ℕ) × (t ≡ front ++ 10 ∷ rest))
 

@@ -1,14 +1,16 @@
--- Why a text is refused: what stands before the fault, what is wanted there, and what stands there instead.
-use Rattle.std.specs.Prelude.{All, ◌≡◌, ℕ, Bool, false, cond, ◌⊎◌, List, [], ◌++◌, map, length, Ok, Err, Result, ◌==◌, nat_le, nat_lt}
+-- What is wrong with a text: what stands before the fault, what is wanted there, and what stands there instead.
+use Rattle.std.specs.Prelude.{◌↔◌, All, ◌≡◌, ℕ, Bool, false, cond, ◌⊎◌, List, [], ◌++◌, map, length, Ok, Err, Result, ◌==◌, nat_le, nat_lt}
 use Rattle.std.specs.List.{list_any}
 use Rattle.prefix.specs.Kinds.{report_count}
 use Rattle.prefix.specs.declared.kind.Kind.{Kind}
 use Rattle.prefix.specs.declared.kind.Kind.TheVariants.{Report, Reply}
 use Rattle.sheet_text.specs.Places.{Before, WordAt, LineEndAt, ByteAt}
-use Rattle.sheet_text.specs.Beginnings.{Header, Awaited, opening, comment, form, variable_count, rule_count, line, variable, literal, over, Awaits}
-use Rattle.sheet_text.specs.Grammar.{Allowed, lines_of, Comment, Quantifier, Signed, Variable, position_in}
+use Rattle.sheet_text.specs.Grammar.{Header, Begun, Comment, Says}
+use Rattle.sheet_text.specs.Beginnings.{Awaited, opening, comment, form, variable_count, rule_count, line, variable, literal, over, Awaits}
+use Rattle.sheet_text.specs.Grammar.{Header, Begun, Comment, Says, Allowed, lines_of, Quantifier, Signed, Variable, position_in}
 use Rattle.sheet_text.specs.Grammar as grammar
 use Rattle.sheet_text.specs.FirstWords.{first_of}
+use Rattle.sheet_text.specs.Sheets.{Sheet}
 use Rattle.sheet_text.specs.Wanted.{after, number_in, natural_in, natural_within, end_in, form_in}
 use Rattle.sheet_text.specs.Words.{Token, letters, number, line_end, place_of, sort_word}
 use Rattle.faults.specs.declared.sheet.SheetFault.{SheetFault}
@@ -54,7 +56,7 @@ wrong_rule h qs count s =
     (cond (nat_lt count h.rules) (after (number_in s) (wrong_literal h.length [] (place_of s))) (Err (fault.RuleCount (place_of s))))
     (Err (fault.Unnamed (place_of s)))
 
--- A line after the header begins with a or e, unless there are rules (3), or with a number. Another first word is wrong (3, or 2 where it begins with no letter).
+-- A line after the header begins with a number, which makes it a rule, or with a or e where there is no rule yet (3). Another first word is wrong (3, or 2 where it begins with no letter).
 abbrev pub wrong_line : Header → List Variable → ℕ → First → Token → Result (Unit {0}) SheetFault
 wrong_line h qs count first.Comment s = Err (fault.Word (place_of s))
 wrong_line h qs count first.Header s = Err (fault.Word (place_of s))
@@ -81,17 +83,9 @@ wrong (variable h qs k vs) s = after (natural_in s) (wrong_variable h.length (qs
 wrong (literal h qs rules ls) s = after (number_in s) (wrong_literal h.length ls (place_of s))
 wrong (over h qs rules) s = end_in s
 
--- What is wrong with the end of a text: there is no header (3), a variable is not named (6), a rule is missing (7).
-abbrev pub wrong_end : Awaited → ℕ → Result (Unit {0}) SheetFault
-wrong_end opening p = Err (fault.Word p)
-wrong_end comment p = Err (fault.Word p)
-wrong_end form p = Err (fault.Word p)
-wrong_end (variable_count f) p = Err (fault.Word p)
-wrong_end (rule_count f n) p = Err (fault.Word p)
-wrong_end (line h qs rules) p = cond (length qs == h.length) (cond (length rules == h.rules) (Ok tt) (Err (fault.RuleCount p))) (Err (fault.Unnamed p))
-wrong_end (variable h qs k vs) p = Ok tt
-wrong_end (literal h qs rules ls) p = Ok tt
-wrong_end (over h qs rules) p = Ok tt
+-- What is wrong where a text ends after these lines: a variable is not named (6), a rule is missing (7).
+abbrev pub wrong_end : Header → List Variable → List (List Signed) → ℕ → Result (Unit {0}) SheetFault
+wrong_end h qs rules p = cond (length qs == h.length) (cond (length rules == h.rules) (Ok tt) (Err (fault.RuleCount p))) (Err (fault.Unnamed p))
 
 -- The fault f is there: in a byte of the word, in the word, or in the end of the line.
 abbrev pub FaultAt : List ℕ → List ℕ → Awaited → SheetFault → Type 0
@@ -110,13 +104,16 @@ pub record FaultInside (t : List ℕ) (f : SheetFault) : Type 0 where
   pub awaits : Awaits lines words awaited
   pub fault : FaultAt t front awaited f
 
--- The text ends too early.
-pub record FaultAtEnd (t : List ℕ) (f : SheetFault) : Type 0 where
-  pub awaited : Awaited
-  pub allowed : All Allowed t
-  pub awaits : Awaits (lines_of t) [] awaited
-  pub fault : wrong_end awaited (length t) ≡ Err f
+-- The text ends too early: before the header (3), or after lines that are as they should be.
+abbrev pub FaultAtEnd : List ℕ → SheetFault → Type 0
+FaultAtEnd t f =
+    All Allowed t × ((All Comment (lines_of t) × (f ≡ fault.Word (length t)))
+    ⊎ ((h : Header) × (qs : List Variable) × (rules : List (List Signed)) × Begun (lines_of t) h qs rules × (wrong_end h qs rules (length t) ≡ Err f)))
 
 -- The text t has the fault f, and before it none.
-abbrev pub Refused : List ℕ → SheetFault → Type 0
-Refused t f = FaultInside t f ⊎ FaultAtEnd t f
+abbrev pub HasFault : List ℕ → SheetFault → Type 0
+HasFault t f = FaultInside t f ⊎ FaultAtEnd t f
+
+-- A text says one sheet, or it has one fault.
+abbrev pub Decided : List ℕ → Type 0
+Decided t = (r : Result Sheet SheetFault) × ((s : Sheet) → (r ≡ Ok s) ↔ Says t s) × ((f : SheetFault) → (r ≡ Err f) ↔ HasFault t f)

@@ -6,7 +6,7 @@ use Rattle.sheet.specs.declared.literal.Literal.{Literal}
 use Rattle.sheet.specs.declared.rule.Rule.{Rule}
 use Rattle.sheet_text.specs.Grammar.{Says}
 use Rattle.sheet_text.specs.Sheets.{Sheet}
-use Rattle.sheet_text.specs.Refusing.{Refused}
+use Rattle.sheet_text.specs.Refusing.{HasFault}
 use Rattle.faults.specs.declared.sheet.SheetFault.{SheetFault}
 use Rattle.faults.specs.declared.sheet.SheetFault.TheVariants.{TableTooShort}
 use Rattle.sheet_text.specs.declared.reading.Reading.{Reading}
@@ -37,4 +37,4 @@ Outcome (Err g) (Err f) before after = (f ≡ g) × (after ≡ before)
 -- The same by what the text says and by what is wrong with it: a sheet that it says stands in the table. Or the table is as it was: the text has a fault, or it says a sheet of more rules than the table has room for.
 abbrev pub Meant : List ℕ → Result Reading SheetFault → List Rule → List Rule → Type 0
 Meant t (Ok reading) before after = (s : Sheet) × Says t s × Holds s reading before after
-Meant t (Err f) before after = (after ≡ before) × (Refused t f ⊎ ((f ≡ TableTooShort) × ((s : Sheet) × Says t s × (length before < length s.rules))))
+Meant t (Err f) before after = (after ≡ before) × (HasFault t f ⊎ ((f ≡ TableTooShort) × ((s : Sheet) × Says t s × (length before < length s.rules))))

@@ -1,6 +1,7 @@
 // Cuts a text into words, one at a time.
 ghost use Rattle.std.specs.Prelude.{◌≡◌, ℕ, ◌+◌, ◌<◌, ◌≤◌, ◌≢◌, ◌⊎◌, length, slice_index, MatchOption};
-ghost use Rattle.sheet_text.specs.Bytes.{EachBefore, Space, Inner, Printable, FirstUnprintable};
+ghost use Rattle.sheet_text.specs.Bytes.{EachBefore, Space, Printable, FirstUnprintable};
+ghost use Rattle.sheet_text.specs.Places.{Inner};
 
 use crate::word::Word;
 use faults::TextFault;
@@ -31,7 +32,7 @@ impl<'a> Iterator for Lexer<'a> {
     ghost use Rattle.std.specs.Iterator.{at_most};
     ghost use Rattle.sheet_text.specs.Lexing.{Draws};
 
-    // A byte that no text has is found with the word that it stands in.
+    // A byte that is not allowed is found with the word that it stands in.
     type Item = Result<Word<'a>, TextFault>;
 
     ghost next_gives = { Draws };
@@ -81,7 +82,7 @@ fn word_length(text: &[u8]) -> usize
         .unwrap_or(text.len())
 }
 
-// Where a word has its first byte that no text may have.
+// Where a word has its first byte that is not allowed.
 fn first_unprintable(word: &[u8]) -> Option<usize>
     ensures { MatchOption result (EachBefore (length word.now) Printable word.now) (FirstUnprintable word.now) }
 {

@@ -1,8 +1,8 @@
 // Reads a sheet from its text.
 ghost use Rattle.sheet_text.specs.Reading.{read_text, read_through};
 ghost use Rattle.sheet_text.specs.Grammar.{EachNamed};
-ghost use Rattle.sheet_text.specs.Laws.{ReadAsSaid};
-ghost use Rattle.sheet_text.specs.Laws.{RefusedAsFound};
+ghost use Rattle.sheet_text.specs.Laws.{ReadAsSaid, RefusedAsFound};
+ghost use Rattle.sheet_text.specs.Refusing.{Decided};
 ghost use Rattle.sheet_text.specs.Tables.{Outcome, Meant};
 ghost use Rattle.sheet_text.specs.Drafts.{Passed};
 
@@ -47,11 +47,12 @@ fn read_into(text: &[u8], table: &mut [Rule]) -> Result<Reading, SheetFault>
 // Reads the sheet that a text says. Its rules stand at the front of the table,
 // and the rest of the table is left alone; on a refusal the table is as it was.
 pub fn read_sheet(text: &[u8], table: &mut [Rule]) -> Result<Reading, SheetFault>
+    ensures meant { Meant text.now result table.old table.new }
+    ensures decided { Decided text.now }
+    ensures named { EachNamed text.now }
     ensures outcome { Outcome (read_text text.now) result table.old table.new }
     ensures grammar { ReadAsSaid text.now }
     ensures faults { RefusedAsFound text.now }
-    ensures named { EachNamed text.now }
-    ensures meant { Meant text.now result table.old table.new }
 {
     read_into(text, table)
 }

@@ -34,8 +34,8 @@ pub(crate) enum Mode {
     LineEnd,
 }
 
-// A plain record, of which the definitions speak; a `Reader` has one that keeps to
-// its bounds.
+// A plain record, of which the definitions by steps speak; a `Reader` has one that
+// keeps to its bounds.
 #[derive(Drop)]
 pub(crate) struct State {
     pub(crate) section: Section,

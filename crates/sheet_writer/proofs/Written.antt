@@ -14,6 +14,7 @@ use Rattle.sheet.specs.declared.rule.Rule.{Rule}
 use Rattle.sheet_text.specs.Grammar.{Comment, header_line, Variable, order, position_in, Once, placed, Ranges, quantifier_line, rule_line, Says}
 use Rattle.sheet_text.specs.Sheets.{Sheet}
 use Rattle.sheet_writer.specs.Writing.{rising, sheet_of_rules, runs, signed, quantifier_lines, rule_lines, sheet_lines, text_of, written}
+use Rattle.sheet_text.proofs.Beginnings.{all_ruled}
 use Rattle.sheet_text.proofs.Naming.{Ranged}
 use Rattle.sheet_text.proofs.RuleReads.{Known}
 use Rattle.sheet_writer.proofs.Joining.{IsLine, lines-joined, allowed-joined}
@@ -72,23 +73,37 @@ lines_proper s p =
 proper_says : (s : Sheet) → Proper s → Says (text_of s) s
 proper_says s p =
     let ks = s.kinds in
+    let qs = order (runs 1 ks) in
+    let rs = map (map signed) s.rules in
+    let are = sym (order-runs 1 ks) in
+    let kinds-are : ks ≡ map (λ (q : Variable). q.kind) qs = kinds_from 1 ks ∙ ap (map (λ (q : Variable). q.kind)) are in
+    let long : length qs ≡ length ks = sym (ap length kinds-are ∙ length-map qs (λ (q : Variable). q.kind)) in
+    let placed-are : s.rules ≡ map (map (placed qs)) rs = rules-placed ks s.rules p.within ∙ ap (λ (vs : List Variable). map (map (placed vs)) rs) are in
+    let many : length rs ≡ length s.rules = length-map s.rules (map signed) in
     record {
-      comments = [];
-      quantifiers = runs 1 ks;
-      rules = map (map signed) s.rules;
+      variables = qs;
+      rules = rs;
       allowed = allowed-joined (sheet_lines s) (lines_proper s p);
-      lines = lines-joined (sheet_lines s) (lines_proper s p);
-      commented = All-nil Comment;
-      some = some_runs 1 ks;
-      kinds = kinds_from 1 ks ∙ ap (map (λ (q : Variable). q.kind)) (sym (order-runs 1 ks));
-      named = named-runs ks;
-      once = subst Once (sym (order-runs 1 ks)) (once_from 1 ks);
-      literals = rules-placed ks s.rules p.within ∙ ap (λ (vs : List Variable). map (map (placed vs)) (map (map signed) s.rules)) (sym (order-runs 1 ks));
-      known = known-rules (length ks) s.rules p.within;
-      distinct = p.distinct;
-      positions = p.positions;
-      reports = p.reports;
-      few = p.few;
+      lines = record {
+        comments = [];
+        quantifiers = runs 1 ks;
+        spelled = lines-joined (sheet_lines s) (lines_proper s p);
+        commented = All-nil Comment;
+        positions = p.positions;
+        few = p.few;
+        ordered = refl;
+        some = some_runs 1 ks;
+        quantified = record {
+          range = named-runs ks;
+          once = subst Once are (once_from 1 ks);
+          reports = subst (λ (ks : List Kind). report_count ks ≤ 12) kinds-are p.reports;
+        };
+        most = omega arith;
+        named = λ _. long;
+        ruled = all_ruled (length ks) qs rs (known-rules (length ks) s.rules p.within) (subst (All Distinct) placed-are p.distinct);
+      };
+      kinds = kinds-are;
+      literals = placed-are;
     }
 
 all_of : {A B : Type 0} (P : B → Type 0) (f : A → B) → ((x : A) → P (f x)) → (xs : List A) → All P (map f xs)
