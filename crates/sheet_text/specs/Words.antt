@@ -4,7 +4,7 @@ use Rattle.sheet_text.specs.declared.word.Number.{Number}
 use Rattle.sheet_text.specs.declared.word.Word.{Word}
 use Rattle.sheet_text.specs.declared.word.Word.TheVariants as word
 
--- A word without where it lies in memory: letters or a number at a place, or the end of a line.
+-- A word without where it lies in memory: a number, or letters, which is any stretch that is no number, at a place; or the end of a line.
 pub data Token : Type 0 where
   letters : List ℕ → ℕ → Token
   number : Number → ℕ → Token

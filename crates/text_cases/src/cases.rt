@@ -144,6 +144,10 @@ pub(crate) const WHOLE_TABLE: &[Case] = &[
         text: b"p cnf 1 0\ne 1\n0\n",
     },
     Case {
+        name: "a quantifier line that nothing is left for",
+        text: b"p cnf 1 0\ne 1 0\na\n",
+    },
+    Case {
         name: "minus 0",
         text: b"p cnf 1 1\ne 1 0\n1 -0\n",
     },
