@@ -19,17 +19,17 @@ use Rattle.jobs.specs.declared.settling.Settlement.{Settlement}
 
 -- A fault is the text's own, where the table has a place for each rule that there may be.
 own_fault : (t : List ℕ) (f : SheetFault) (before after : List Rule) → Meant t (Err f) before after → length before ≡ 256 → HasFault t f
-own_fault t f before after h all = ⊎_elim (λ fault. fault) (λ short. let says = short.1.1 in absurd (omega (arith, short.1.2, says.lines.few))) h.1
+own_fault t f before after h all = ⊎_elim (λ own. own) (λ short. let says = short.1.1 in absurd (omega (arith, short.1.2, says.lines.few))) h.1
 
-pub unsaid : (t : List ℕ) (f : SheetFault) (before after : List Rule) (r : Result Settlement SheetFault) → IsErr r → IsErrAnd r (λ g. g ≡ f) → Meant t (Err f) before after
+pub fault_of_text : (t : List ℕ) (f : SheetFault) (before after : List Rule) (r : Result Settlement SheetFault) → IsErr r → IsErrAnd r (λ g. g ≡ f) → Meant t (Err f) before after
     → MatchResult r (Counted t) (λ g. length before ≡ 256 → HasFault t g)
-unsaid t f before after (Ok s) e is h = absurd (false≢true e)
-unsaid t f before after (Err g) e is h = subst (λ g. length before ≡ 256 → HasFault t g) (sym is) (own_fault t f before after h)
+fault_of_text t f before after (Ok s) e is h = absurd (false≢true e)
+fault_of_text t f before after (Err g) e is h = subst (λ g. length before ≡ 256 → HasFault t g) (sym is) (own_fault t f before after h)
 
 -- The policies that are counted are those of the sheet that the text says.
-pub said : (t : List ℕ) (reading : Reading) (before after : List Rule) (policies : PolicyCount) → Meant t (Ok reading) before after
+pub policies_of_text : (t : List ℕ) (reading : Reading) (before after : List Rule) (policies : PolicyCount) → Meant t (Ok reading) before after
     → policies ≡ worth_of count (rules_kept reading.form reading.prefix.length (take 256 (take reading.rules after))) reading.prefix → Counted t (record { policies = policies })
-said t reading before after policies h e =
+policies_of_text t reading before after policies h e =
     let s = h.0 in
     let holds = h.2 in
     let front : take 256 (take reading.rules after) ≡ take (length s.rules) after =
@@ -46,6 +46,6 @@ said t reading before after policies h e =
     }
 
 -- The job's fault is the text's, whole.
-pub refused : (t : List ℕ) (f : SheetFault) (r : Result Settlement JobFault) → IsErr r → IsErrAnd r (λ j. j ≡ fault.Sheet f) → HasFault t f → Settled t r
-refused t f (Ok s) e is h = absurd (false≢true e)
-refused t f (Err j) e is h = subst (λ j. Settled t (Err j)) (sym is) h
+pub fault_kept_whole : (t : List ℕ) (f : SheetFault) (r : Result Settlement JobFault) → IsErr r → IsErrAnd r (λ j. j ≡ fault.Sheet f) → HasFault t f → Settled t r
+fault_kept_whole t f (Ok s) e is h = absurd (false≢true e)
+fault_kept_whole t f (Err j) e is h = subst (λ j. Settled t (Err j)) (sym is) h
