@@ -1,5 +1,9 @@
 pub mod Masks
 pub mod Positions
+pub mod Cuts
 pub mod Points
 pub mod Settings
+pub mod Before
 pub mod Lines
+pub mod Replies
+pub mod Equal

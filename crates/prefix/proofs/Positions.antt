@@ -1,5 +1,5 @@
 -- The kinds of a prefix against its mask.
-use Rattle.std.proofs.Common.{◌≡◌, ℕ, zero, suc, ◌+◌, ◌-◌, ◌*◌, ◌/◌, ◌%◌, ◌^◌, ◌<◌, ◌≤◌, min, Bool, true, false, eqb, ◌⊎◌, List, [], ◌∷◌, length, take, Some, None, sym, refl, ap, ◌∙◌, ⊎_elim, mod-eq_of_lt, pow-suc, add-one, arith, pow_mono}
+use Rattle.std.proofs.Common.{◌≡◌, ℕ, zero, suc, ◌+◌, ◌*◌, ◌/◌, ◌%◌, ◌^◌, ◌<◌, ◌≤◌, Bool, true, false, eqb, ◌⊎◌, List, [], ◌∷◌, length, take, Some, None, sym, refl, ap, ◌∙◌, ⊎_elim, mod-eq_of_lt, pow-suc, add-one, arith}
 use lib.Count.{ones, ones_step}
 use Rattle.std.proofs.lemmas.Nat.{pow_pos, mod-pow-add}
 use Rattle.std.proofs.lemmas.List.{take_all}
@@ -49,7 +49,7 @@ kind_from_report n m i b h e =
 count_first : (r : ℕ) (ks : List Kind) → r < 2 → report_count (kind_of (eqb r 1) ∷ ks) ≡ r + report_count ks
 count_first r ks h = two_cases (λ r. report_count (kind_of (eqb r 1) ∷ ks) ≡ r + report_count ks) (omega arith) (omega arith) r h
 
-ones_none : ones 0 ≡ 0
+pub ones_none : ones 0 ≡ 0
 unfolding ones
 ones_none = refl
 
@@ -82,18 +82,3 @@ count-take (suc i) (Reply ∷ ks) = count-take i ks
 pub before_le : (ks : List Kind) (k : ℕ) → reports_before ks k ≤ report_count ks
 before_le ks zero = omega arith
 before_le ks (suc i) = count-take i ks
-
--- The same where the machine's mask ends after 32 positions.
-pub count_before : (n m k : ℕ) → n ≤ 24 → m < 2 ^ n → ones (m % 2 ^ min (k - 1) 32) ≡ reports_before (kinds_of n m) k
-count_before n m zero few h = let z : m % 2 ^ min (0 - 1) 32 ≡ 0 = omega arith in ap ones z ∙ ones_none
-count_before n m (suc i) few h =
-    let e : suc i - 1 ≡ i = omega arith in
-    ap (λ (x : ℕ). ones (m % 2 ^ min x 32)) e
-    ∙ ⊎_elim (λ (l : i < 32). let q : min i 32 ≡ i = omega arith in ap (λ (x : ℕ). ones (m % 2 ^ x)) q ∙ sym (count_front i n m h))
-    (λ (l : 32 ≤ i).
-    let q : min i 32 ≡ 32 = omega arith in
-    let up : 2 ^ n ≤ 2 ^ 32 = pow_mono (let w : n ≤ 32 = omega arith in w) in
-    let fits : m < 2 ^ 32 = omega arith in
-    ap (λ (x : ℕ). ones (m % 2 ^ x)) q ∙ ap ones (mod-eq_of_lt fits) ∙ sym (count-whole n m h)
-    ∙ ap report_count (sym (take_all i (kinds_of n m) (omega (arith, length-kinds n m)))))
-    (cases_lt i 32)

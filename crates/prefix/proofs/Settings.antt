@@ -1,5 +1,5 @@
 -- Settings and numbers correspond one to one.
-use Rattle.std.proofs.Common.{◌≡◌, ℕ, zero, suc, ◌-◌, ◌*◌, ◌%◌, ◌^◌, ◌<◌, ◌≤◌, Bool, true, false, cond, List, [], ◌∷◌, length, sym, refl, ap, ◌∙◌, subst, ⊎_elim, pow-suc, pow_mono, arith}
+use Rattle.std.proofs.Common.{◌≡◌, ℕ, zero, suc, ◌+◌, ◌-◌, ◌*◌, ◌%◌, ◌^◌, ◌<◌, ◌≤◌, Bool, true, false, cond, List, [], ◌∷◌, ◌++◌, length, sym, refl, ap, ◌∙◌, subst, ⊎_elim, pow-suc, pow_mono, add-one, arith, length-append}
 use Rattle.std.proofs.lemmas.Bool.{cases_lt}
 use Rattle.std.proofs.lemmas.Nat.{one_shl}
 use lib.Count.{ones}
@@ -28,6 +28,12 @@ number-apart (true ∷ v) (false ∷ w) l e =
     let k : length v ≡ length w = omega arith in absurd (omega (arith, ap (λ (z : ℕ). 2 ^ z) k, number-below w))
 number-apart (false ∷ v) (true ∷ w) l e =
     let k : length v ≡ length w = omega arith in absurd (omega (arith, ap (λ (z : ℕ). 2 ^ z) k, number-below v))
+
+-- One report more, the last: twice the number, and one more where it is on.
+pub number_push : (v : List Bool) (x : Bool) → number (v ++ x ∷ []) ≡ 2 * number v + cond x 1 0
+number_push [] x = omega arith
+number_push (true ∷ v) x = omega (arith, number_push v x, ap (λ (n : ℕ). 2 ^ n) (length-append v (x ∷ []) ∙ add-one (length v)), pow-suc 2 (length v))
+number_push (false ∷ v) x = omega (arith, number_push v x)
 
 -- The setting of r reports with a number below 2 ^ r.
 pub number-each : (r s : ℕ) → s < 2 ^ r → (v : List Bool) × (length v ≡ r) × (number v ≡ s)

@@ -13,11 +13,11 @@ Point ks k v = (kind_at ks k ≡ Some Reply) × SettingBefore ks k v
 abbrev pub points_at : List Kind → ℕ → ℕ
 points_at ks k = cond (is_reply ks k) (2 ^ reports_before ks k) 0
 
--- How many stand at the positions 1 to k.
-abbrev pub points_to : List Kind → ℕ → ℕ
-points_to ks zero = 0
-points_to ks (suc i) = points_to ks i + points_at ks (suc i)
+-- The sum of f over the positions 1 to k.
+abbrev pub sum_to : (ℕ → ℕ) → ℕ → ℕ
+sum_to f zero = 0
+sum_to f (suc i) = sum_to f i + f (suc i)
 
 -- T, how many points there are.
 abbrev pub point_count : List Kind → ℕ
-point_count ks = points_to ks (length ks)
+point_count ks = sum_to (points_at ks) (length ks)

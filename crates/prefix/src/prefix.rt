@@ -6,6 +6,7 @@
 ghost use Rattle.prefix.specs.Limits.{Limits};
 
 mod questions;
+mod settings;
 
 // `length` positions; position k is a report where bit k - 1 of `reports` is on.
 #[derive(Clone, Copy, PartialEq, Eq, Debug)]

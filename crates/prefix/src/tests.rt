@@ -51,6 +51,67 @@ fn twelve_reports_then_twelve_replies(rt: HostRuntime) -> Result<(), Fail> {
     Ok(())
 }
 
+// Reports at 1 and 3: the first of them weighs most.
+#[test]
+fn settings_of_two_reports(rt: HostRuntime) -> Result<(), Fail> {
+    let prefix = Prefix::new(4, 0b0101).ok_or("refused")?;
+    for (position, first_on, last_on, past) in [
+        (0, 0, 0, 1),
+        (1, 0, 0, 1),
+        (2, 1, 0, 2),
+        (4, 2, 1, 4),
+        (5, 2, 1, 4),
+        (25, 2, 1, 4),
+        (usize::MAX, 2, 1, 4),
+    ] {
+        assert_eq!(rt;
+            prefix.setting_number(position, Line::from_mask(0b1011)),
+            first_on
+        );
+        assert_eq!(rt;
+            prefix.setting_number(position, Line::from_mask(0b1110)),
+            last_on
+        );
+        let last = prefix.setting_line(position, past - 1).ok_or("no line")?;
+        assert_eq!(rt; prefix.setting_number(position, last), past - 1);
+        assert_eq!(rt; prefix.setting_line(position, past), None);
+    }
+    for (number, mask) in [(0, 0b0000), (1, 0b0100), (2, 0b0001), (3, 0b0101)] {
+        let line = prefix.setting_line(4, number).ok_or("no line")?;
+        assert_eq!(rt; line.mask(), mask);
+        assert_eq!(rt; prefix.setting_number(4, line), number);
+    }
+    Ok(())
+}
+
+#[test]
+fn settings_of_twelve_reports(rt: HostRuntime) -> Result<(), Fail> {
+    let prefix = Prefix::new(24, 0x000fff).ok_or("refused")?;
+    for (position, number, past) in [
+        (0, 0, 1),
+        (1, 0, 1),
+        (2, 1, 2),
+        (4, 4, 8),
+        (5, 8, 16),
+        (25, 2048, 4096),
+        (usize::MAX, 2048, 4096),
+    ] {
+        assert_eq!(rt;
+            prefix.setting_number(position, Line::from_mask(0xfff001)),
+            number
+        );
+        let last = prefix.setting_line(position, past - 1).ok_or("no line")?;
+        assert_eq!(rt; prefix.setting_number(position, last), past - 1);
+        assert_eq!(rt; prefix.setting_line(position, past), None);
+    }
+    for (number, mask) in [(0, 0x000), (1, 0x800), (2048, 0x001), (4095, 0xfff)] {
+        let line = prefix.setting_line(25, number).ok_or("no line")?;
+        assert_eq!(rt; line.mask(), mask);
+        assert_eq!(rt; prefix.setting_number(25, line), number);
+    }
+    Ok(())
+}
+
 #[test]
 fn a_line_changes_at_one_position(rt: HostRuntime) {
     let line = Line::from_mask(0b0110);

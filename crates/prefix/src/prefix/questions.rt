@@ -1,5 +1,6 @@
 // What can be asked of a prefix.
-ghost use Rattle.std.specs.Prelude.{◌≡◌, ◌^◌, ◌≤◌, length as count, MatchOption};
+ghost use Rattle.std.specs.Prelude.{◌≡◌, ℕ, ◌-◌, ◌%◌, ◌^◌, ◌≤◌, ◌<◌, true, length as count, MatchOption, Decides};
+ghost use Rattle.prefix.specs.Bits.{mask_value};
 ghost use Rattle.prefix.specs.Limits.{Limits};
 ghost use Rattle.prefix.specs.Kinds.{kind_at, is_report, is_reply, report_count, reports_before};
 ghost use Rattle.prefix.specs.Prefixes.{kinds};
@@ -76,8 +77,16 @@ impl Prefix {
         ensures value { result ≡ reports_before (kinds self) position }
         ensures few { result ≤ 12 }
     {
-        let before = self.reports & first_positions(position.saturating_sub(1));
-        before.count_ones() as usize
+        self.report_mask_before(position).count_ones() as usize
+    }
+
+    // The mask of the reports before a position.
+    #[tactic(auto, using(crate::proofs::Cuts::reports_cut, crate::proofs::Cuts::cut_decides))]
+    pub fn report_mask_before(self, position: usize) -> u32
+        ensures value { result ≡ self.reports % 2 ^ (position - 1) }
+        ensures reports { (k : ℕ) → Decides (mask_value result k) ((is_report (kinds self) k ≡ true) × (k < position)) }
+    {
+        self.reports & first_positions(position.saturating_sub(1))
     }
 
     // How many settings the reports have. Settings correspond to the numbers
@@ -106,7 +115,7 @@ impl Prefix {
 
     // How many points a position has: one for each setting before a reply.
     #[tactic(auto, using(crate::proofs::Settings::few_settings))]
-    fn points_at(self, position: usize) -> usize
+    pub fn points_at(self, position: usize) -> usize
         ensures value { result ≡ points_at (kinds self) position }
         ensures few { result ≤ 4096 }
     {
