@@ -1,0 +1,27 @@
+// Books: for each reply a guard for on and a guard for off, for every way of keeping them,
+// and two ways at hand, rows and a table of bits.
+//
+//     let book = RowBook::new(prefix, &rows);
+//     book.on(4, line) // is its on-guard at position 4 yes, at the reports of this line?
+#![tactic(auto)]
+
+pub mod book;
+pub mod copy;
+pub mod fault;
+pub mod fillable;
+pub mod row;
+pub mod row_book;
+pub mod side;
+pub mod table_book;
+
+pub use book::Book;
+pub use copy::copy_into;
+pub use fault::CopyFault;
+pub use fillable::FillableBook;
+pub use row::Row;
+pub use row_book::RowBook;
+pub use side::Side;
+pub use table_book::TableBook;
+
+#[cfg(test)]
+mod tests;

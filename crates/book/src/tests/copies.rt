@@ -1,0 +1,108 @@
+// Copying rows and tables into a table, and the refusals.
+use super::{row, site_f};
+use crate::book::Book;
+use crate::copy::copy_into;
+use crate::fault::CopyFault;
+use crate::row_book::RowBook;
+use crate::side::Side;
+use crate::table_book::TableBook;
+use prefix::{Line, Prefix};
+use std::test::Fail;
+
+// Site F's rows, one that makes both guards of position 4 yes where report 3 is on, and one
+// that agrees with nothing.
+#[test]
+fn a_copy_has_the_same_guards(rt: HostRuntime) -> Result<(), Fail> {
+    let prefix = Prefix::new(4, 0b0101).ok_or("refused")?;
+    let [first, second, third, fourth] = site_f();
+    let both = row(4, Side::Off, 0b0100, 0b0100);
+    let wrong = row(2, Side::Off, 0b0100, 0b0100);
+    let all = [first, wrong, second, third, fourth, both];
+    let rows = RowBook::new(prefix, &all);
+    let mut words = [u64::MAX; 5];
+    let mut table = TableBook::new(prefix, &mut words);
+    assert_eq!(rt; copy_into(&rows, &mut table), Ok(()));
+    for position in 0..6 {
+        for mask in 0..16 {
+            let line = Line::from_mask(mask);
+            assert_eq!(rt; table.on(position, line), rows.on(position, line));
+            assert_eq!(rt; table.off(position, line), rows.off(position, line));
+        }
+    }
+    // settings 0 to 3 of position 4: on at 0, 1 and 3, off at 1, 2 and 3
+    assert_eq!(rt; words, [0b11, 0, 0b1011, 0b1110, u64::MAX]);
+    Ok(())
+}
+
+// Seven reports, then two replies: two words a block.
+#[test]
+fn a_copy_of_a_table(rt: HostRuntime) -> Result<(), Fail> {
+    let prefix = Prefix::new(9, 0x7f).ok_or("refused")?;
+    let mut words = [0x0123_4567_89ab_cdef; 9];
+    let table = TableBook::new(prefix, &mut words);
+    let mut more = [u64::MAX; 9];
+    let mut copy = TableBook::new(prefix, &mut more);
+    assert_eq!(rt; copy_into(&table, &mut copy), Ok(()));
+    let mut expected = [0x0123_4567_89ab_cdef; 9];
+    expected[8] = u64::MAX;
+    assert_eq!(rt; more, expected);
+    Ok(())
+}
+
+// Of garbage only what guards say is copied, and no rows leave every block 0.
+#[test]
+fn copies_of_garbage_and_of_nothing(rt: HostRuntime) -> Result<(), Fail> {
+    let prefix = Prefix::new(4, 0b0101).ok_or("refused")?;
+    let mut words = [u64::MAX; 4];
+    let garbage = TableBook::new(prefix, &mut words);
+    let mut more = [7; 4];
+    let mut copy = TableBook::new(prefix, &mut more);
+    assert_eq!(rt; copy_into(&garbage, &mut copy), Ok(()));
+    assert_eq!(rt;
+        copy_into(
+            &RowBook::new(prefix, &[]),
+            &mut TableBook::new(prefix, &mut words)
+        ),
+        Ok(())
+    );
+    assert_eq!(rt; more, [0b11, 0b11, 0b1111, 0b1111]);
+    assert_eq!(rt; words, [0; 4]);
+    Ok(())
+}
+
+#[test]
+fn refused_copies_alter_nothing(rt: HostRuntime) -> Result<(), Fail> {
+    let prefix = Prefix::new(4, 0b0101).ok_or("refused")?;
+    let all = site_f();
+    let rows = RowBook::new(prefix, &all);
+    for (length, reports, count, fault) in [
+        (4, 0b0101, 3, CopyFault::NoRoom),
+        (4, 0b0011, 4, CopyFault::PrefixesDiffer),
+        (5, 0b0101, 8, CopyFault::PrefixesDiffer),
+        // both: the prefixes come first
+        (4, 0b0011, 0, CopyFault::PrefixesDiffer),
+    ] {
+        let other = Prefix::new(length, reports).ok_or("refused")?;
+        let mut words = [u64::MAX; 8];
+        let mut table = TableBook::new(other, &mut words[..count]);
+        assert_eq!(rt; copy_into(&rows, &mut table), Err(fault));
+        assert_eq!(rt; words, [u64::MAX; 8]);
+    }
+    Ok(())
+}
+
+#[test]
+fn refusals_have_numbers_and_words(rt: HostRuntime) -> Result<(), Fail> {
+    for (fault, number, words) in [
+        (
+            CopyFault::PrefixesDiffer,
+            13,
+            "the two books have different prefixes",
+        ),
+        (CopyFault::NoRoom, 15, "the book to fill has no room"),
+    ] {
+        assert_eq!(rt; fault.number(), number);
+        assert_eq!(rt; fault.to_string(rt.alloc())?.as_str(), words);
+    }
+    Ok(())
+}
