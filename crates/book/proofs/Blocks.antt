@@ -20,9 +20,9 @@ sum_still f n (suc i) h z =
 no_words : (p : Prefix) (k : ℕ) → (k ≡ 0) ⊎ (p.length < k) → words_at (kinds p) k ≡ 0
 no_words p k o = ap (λ q. cond (some_reply q) (2 * block_words (kinds p) k) 0) (kind_outside p.length p.reports k o)
 
--- Past the last position all words come before.
-pub words_past : (p : Prefix) (k : ℕ) → words_before (kinds p) k ≡ sum_to (words_at (kinds p)) (min (k - 1) p.length)
-words_past p k =
+-- Before a position past the last stand the words of all positions.
+pub words_capped : (p : Prefix) (k : ℕ) → words_before (kinds p) k ≡ sum_to (words_at (kinds p)) (min (k - 1) p.length)
+words_capped p k =
     ⊎_elim (λ (l : k - 1 < p.length). let e : k - 1 ≡ min (k - 1) p.length = omega arith in ap (sum_to (words_at (kinds p))) e)
     (λ (l : p.length ≤ k - 1).
     let e : p.length ≡ min (k - 1) p.length = omega arith in

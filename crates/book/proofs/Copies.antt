@@ -1,6 +1,7 @@
 -- Copying guard by guard, point by point.
-use Rattle.std.proofs.Common.{◌≡◌, ℕ, ◌+◌, ◌^◌, ◌≤◌, ◌<◌, ◌≢◌, cond, Bool, true, false, ◌&&◌, ◌||◌, List, length, sym, refl, ap, ◌∙◌, subst, ⊎_elim, arith}
+use Rattle.std.proofs.Common.{◌≡◌, ℕ, ◌+◌, ◌^◌, ◌≤◌, ◌<◌, ◌≢◌, cond, Bool, true, false, ◌&&◌, ◌||◌, List, length, sym, ap, ◌∙◌, subst, ⊎_elim, arith}
 use Rattle.std.proofs.lemmas.Bool.{cases_eq}
+use Rattle.std.proofs.Math.Bool.{and-false, and-true}
 use Rattle.std.proofs.lemmas.Bool.Decides.{nat_tests}
 use Rattle.prefix.specs.Kinds.{some_reply, is_reply, reports_before}
 use Rattle.prefix.specs.Lines.{setting_before}
@@ -50,14 +51,6 @@ before_position k s j n h = grind (arith, nat_tests)
 before_last : (e j n : ℕ) → j ≤ e → comes_before (e + 1) 0 j n ≡ true
 before_last e j n h = grind (arith, nat_tests)
 
-and_false : (b : Bool) → (b && false) ≡ false
-and_false true = refl
-and_false false = refl
-
-and_true : (b : Bool) → (b && true) ≡ b
-and_true true = refl
-and_true false = refl
-
 -- The setting of a point has one of the numbers of its position.
 number_within : (ks : List Kind) (k j : ℕ) (w : List Bool) → Point ks j w → j ≡ k → number w < points_at ks k
 number_within ks k j w o e =
@@ -77,8 +70,8 @@ module _ (ks : List Kind) (g : Guards) where
       at_point : h' side k v ≡ (g side k v && comes_before k (s + 1) k (number v))
       at_point =
           d.here side
-          ∙ ap (λ (b : Bool). b || g side k v) (c side k v p ∙ ap (λ (i : ℕ). g side k v && comes_before k s k i) n ∙ ap (λ (b : Bool). g side k v && b) (before_here k s) ∙ and_false (g side k v))
-          ∙ sym (ap (λ (i : ℕ). g side k v && comes_before k (s + 1) k i) n ∙ ap (λ (b : Bool). g side k v && b) (before_past k s) ∙ and_true (g side k v))
+          ∙ ap (λ (b : Bool). b || g side k v) (c side k v p ∙ ap (λ (i : ℕ). g side k v && comes_before k s k i) n ∙ ap (λ (b : Bool). g side k v && b) (before_here k s) ∙ and-false (g side k v))
+          ∙ sym (ap (λ (i : ℕ). g side k v && comes_before k (s + 1) k i) n ∙ ap (λ (b : Bool). g side k v && b) (before_past k s) ∙ and-true (g side k v))
 
       same : j ≡ k → number w ≡ s → h' side j w ≡ (g side j w && comes_before k (s + 1) j (number w))
       same e f =
@@ -99,7 +92,7 @@ module _ (ks : List Kind) (g : Guards) where
   -- All positions.
   pub all_copied : (h : Guards) → CopiedTo ks g (length ks + 1) 0 h → SameGuards ks g h
   all_copied h c side j w o =
-      c side j w o ∙ ap (λ (b : Bool). g side j w && b) (before_last (length ks) j (number w) (reply_within ks j o.0)) ∙ and_true (g side j w)
+      c side j w o ∙ ap (λ (b : Bool). g side j w && b) (before_last (length ks) j (number w) (reply_within ks j o.0)) ∙ and-true (g side j w)
 
 -- The same guards mean the same policies.
 pub copied : (p q : Prefix) (room : Bool) (g h : Guards) → p ≡ q → room ≡ true → SameGuards (kinds p) g h → Copied p q room g h

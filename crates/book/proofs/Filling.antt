@@ -67,7 +67,7 @@ module _ (p : Prefix) (ws : List ℕ) (side : Side) (k : ℕ) (v : List Bool) (o
 pub point_inside : (p : Prefix) (ws : List ℕ) (side : Side) (k m : ℕ) → can_add (suffice p ws) p k ≡ true → word_of (kinds p) side k (setting_before p k m) < length ws
 point_inside p ws side k m e = inside p ws side k (setting_before p k m) (point_of p k m (and_parts _ _ e).1) (and_parts _ _ e).0
 
--- What `add` leaves is that, where the words suffice and a reply stands.
+-- So `add` makes one guard yes, where the words suffice and a reply stands.
 pub add_fills : (p : Prefix) (ws : List ℕ) (side : Side) (k m : ℕ) → can_add (suffice p ws) p k ≡ true
     → Added (kinds p) (table_guards p ws) side k (setting_before p k m) (table_guards p (words_after_add p ws side k m))
 add_fills p ws side k m e =
@@ -129,7 +129,7 @@ zeroed_next p k ws now h e =
     let next : wb + wa ≡ words_before (kinds p) (k + 1) = omega (arith, sum_next (words_at (kinds p)) k h, ap (sum_to (words_at (kinds p))) (let z : k + 1 - 1 ≡ k = omega arith in z)) in
     ap (with_zeros wb wa) e ∙ ap (λ (a : ℕ). with_zeros a wa (with_zeros 0 wb ws)) from ∙ zeroed_on 0 wb wa ws (omega arith) ∙ ap (λ (n : ℕ). with_zeros 0 n ws) next
 
--- The blocks of a position are within words that suffice.
+-- The blocks of a position are among the words of all.
 pub blocks_inside : (p : Prefix) (k : ℕ) → 1 ≤ k → k ≤ p.length → words_before (kinds p) k + words_at (kinds p) k ≤ word_count (kinds p)
 blocks_inside p k h l =
     omega (arith, sum_next (words_at (kinds p)) k h, sum_grows (words_at (kinds p)) k (length (kinds p)) (omega (arith, length-kinds p.length p.reports)))
