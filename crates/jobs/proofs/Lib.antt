@@ -1,2 +1,4 @@
 pub mod Positioned
+pub mod Listed
+pub mod SearchedListed
 pub mod Settled

@@ -2,34 +2,26 @@
 use Rattle.std.proofs.Common.{◌≡◌, ℕ, List, length, take, Ok, Err, Result, sym, ap, ◌∙◌, subst, ⊎_elim, arith}
 use Rattle.std.proofs.lemmas.List.{take_all, length-take}
 use Rattle.std.proofs.lemmas.Bool.{false≢true}
-use Rattle.std.specs.Result.{IsErr, IsErrAnd, MatchResult}
+use Rattle.std.specs.Result.{IsErr, IsErrAnd}
 use Rattle.sheet.specs.Rules.{rules_kept}
 use Rattle.sheet.specs.declared.rule.Rule.{Rule}
 use Rattle.sheet_text.specs.Refusing.{HasFault}
 use Rattle.sheet_text.specs.Tables.{Meant}
 use Rattle.faults.specs.declared.sheet.SheetFault.{SheetFault}
 use Rattle.sheet_text.specs.declared.reading.Reading.{Reading}
-use Rattle.worth.specs.Counts.{count}
-use Rattle.worth.specs.Worth.{worth_of}
-use Rattle.worth.specs.declared.policy_count.PolicyCount.{PolicyCount}
-use Rattle.jobs.specs.Settling.{Counted, Settled}
+use Rattle.jobs.specs.Settling.{Settles, Counted, Settled}
 use Rattle.jobs.specs.declared.fault.JobFault.{JobFault}
 use Rattle.jobs.specs.declared.fault.JobFault.TheVariants as fault
 use Rattle.jobs.specs.declared.settling.Settlement.{Settlement}
 
 -- A fault is the text's own, where the table has a place for each rule that there may be.
-own_fault : (t : List ℕ) (f : SheetFault) (before after : List Rule) → Meant t (Err f) before after → length before ≡ 256 → HasFault t f
+pub own_fault : (t : List ℕ) (f : SheetFault) (before after : List Rule) → Meant t (Err f) before after → length before ≡ 256 → HasFault t f
 own_fault t f before after h all = ⊎_elim (λ own. own) (λ short. let says = short.1.1 in absurd (omega (arith, short.1.2, says.lines.few))) h.1
 
-pub fault_of_text : (t : List ℕ) (f : SheetFault) (before after : List Rule) (r : Result Settlement SheetFault) → IsErr r → IsErrAnd r (λ g. g ≡ f) → Meant t (Err f) before after
-    → MatchResult r (Counted t) (λ g. length before ≡ 256 → HasFault t g)
-fault_of_text t f before after (Ok s) e is h = absurd (false≢true e)
-fault_of_text t f before after (Err g) e is h = subst (λ g. length before ≡ 256 → HasFault t g) (sym is) (own_fault t f before after h)
-
--- The policies that are counted are those of the sheet that the text says.
-pub policies_of_text : (t : List ℕ) (reading : Reading) (before after : List Rule) (policies : PolicyCount) → Meant t (Ok reading) before after
-    → policies ≡ worth_of count (rules_kept reading.form reading.prefix.length (take 256 (take reading.rules after))) reading.prefix → Counted t (record { policies = policies })
-policies_of_text t reading before after policies h e =
+-- The sheet that is settled is that which the text says.
+pub settles_text : (t : List ℕ) (reading : Reading) (before after : List Rule) (r : Settlement) → Meant t (Ok reading) before after
+    → Settles (rules_kept reading.form reading.prefix.length (take 256 (take reading.rules after))) reading.prefix r → Counted t r
+settles_text t reading before after r h e =
     let s = h.0 in
     let holds = h.2 in
     let front : take 256 (take reading.rules after) ≡ take (length s.rules) after =
@@ -42,7 +34,7 @@ policies_of_text t reading before after policies h e =
       says = h.1;
       kinds = holds.kinds;
       made = holds.rules;
-      policies = e ∙ (λ i. worth_of count (rules_kept (holds.form i) reading.prefix.length (front i)) reading.prefix);
+      settles = coe 0 1 (i. Settles (rules_kept (holds.form i) reading.prefix.length (front i)) reading.prefix r) e;
     }
 
 -- The job's fault is the text's, whole.

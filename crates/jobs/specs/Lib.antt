@@ -1,3 +1,5 @@
+pub mod Choices
+pub mod Steps
 pub mod Faults
 pub mod Inputs
 pub mod Positions

@@ -1,9 +1,13 @@
 // What the jobs answer at chosen inputs.
+use crate::choice::Choice;
 use crate::explanation::Explanation;
 use crate::fault::JobFault;
+use crate::listing::list_choices;
 use crate::position::TextPosition;
-use crate::settling::settle;
+use crate::settling::{Settlement, settle};
+use book::{Row, RowBook, Side};
 use faults::{SheetFault, TextFault};
+use prefix::Prefix;
 use std::alloc::{AllocError, Global};
 use std::test::Fail;
 
@@ -14,20 +18,82 @@ fn one_reply(heap: Global, length: usize) -> Result<Vec<u8>, AllocError> {
     Ok(text)
 }
 
+// A text of a sheet, and what is printed of it.
+#[derive(Clone, Copy)]
+struct SettledText {
+    text: &'static [u8],
+    printed: &'static str,
+}
+
+// What tools/check_settle.py prints of each.
+const SETTLED_TEXTS: &[SettledText] = &[
+    // site F
+    SettledText {
+        text: b"c site F\n\np cnf 4 4\n\na 1 0\ne 2 0\na 3 0\ne 4 0\n\n2 3 0\n-2 -3 4 0\n-2 3 -1 -4 0\n\n-2 3 1 4 0\n\n",
+        printed: "policies 1\n2 0 on\n2 1 on\n4 0 on\n4 1 on\n4 2 off\n4 3 on",
+    },
+    // two replies after a report, and before it
+    SettledText {
+        text: b"p cnf 3 3\na 1 0\ne 2 3 0\n-3 1 0\n-2 1 0\n3 2 -1 0\n",
+        printed: "policies 3\n2 0 off\n2 1 on\n3 0 off\n3 1 on",
+    },
+    SettledText {
+        text: b"p cnf 3 3\ne 2 3 0\na 1 0\n-3 1 0\n-2 1 0\n3 2 -1 0\n",
+        printed: "policies 0",
+    },
+    // no rules, and one without literals
+    SettledText {
+        text: b"p cnf 1 0\ne 1 0",
+        printed: "policies 2\n1 0 on",
+    },
+    SettledText {
+        text: b"p dnf 1 0\ne 1 0",
+        printed: "policies 0",
+    },
+    SettledText {
+        text: b"p cnf 1 1\ne 1 0\n0",
+        printed: "policies 0",
+    },
+    SettledText {
+        text: b"p dnf 1 1\ne 1 0\n0",
+        printed: "policies 2\n1 0 on",
+    },
+    // reports only
+    SettledText {
+        text: b"p cnf 2 0\na 1 2 0\n",
+        printed: "policies 1",
+    },
+    SettledText {
+        text: b"p cnf 2 1\na 1 2 0\n1 2 0\n",
+        printed: "policies 0",
+    },
+    // replies only
+    SettledText {
+        text: b"p cnf 3 3\ne 1 2 3 0\n-1 2 0\n-1 -2 0\n-2 -3 0\n",
+        printed: "policies 3\n1 0 off\n2 0 on\n3 0 off",
+    },
+    // reports at both ends
+    SettledText {
+        text: b"p cnf 4 3\na 1 0\ne 2 3 0\na 4 0\n-2 1 0\n2 3 4 0\n-3 -2 -4 0\n",
+        printed: "policies 2\n2 0 off\n2 1 on\n3 0 on\n3 1 off",
+    },
+    // variables in another order than their positions
+    SettledText {
+        text: b"p cnf 3 3\na 3 0\ne 1 2 0\n-1 3 0\n1 -3 0\n-2 -1 0\n",
+        printed: "policies 2\n2 0 off\n2 1 on\n3 0 on\n3 1 off",
+    },
+    SettledText {
+        text: b"p dnf 5 3\na 5 0\ne 3 0\na 1 4 0\ne 2 0\n5 -3 2 0\n-5 3 4 -2 0\n-5 3 -4 2 0\n",
+        printed: "policies 1\n2 0 on\n2 1 off\n5 0 on\n5 1 off\n5 2 on\n5 3 off\n5 4 on\n5 5 on\n5 6 on\n5 7 on",
+    },
+];
+
 #[test]
-fn sheets_are_counted(rt: HostRuntime) -> Result<(), Fail> {
-    let report_first: &[u8] = b"p cnf 3 3\na 1 0\ne 2 3 0\n-3 1 0\n-2 1 0\n3 2 -1 0\n";
-    let report_last: &[u8] = b"p cnf 3 3\ne 2 3 0\na 1 0\n-3 1 0\n-2 1 0\n3 2 -1 0\n";
-    let no_terms: &[u8] = b"p dnf 1 0\ne 1 0";
-    let empty_term: &[u8] = b"p dnf 1 1\ne 1 0\n0";
-    for (text, count) in [
-        (report_first, 3),
-        (report_last, 0),
-        (no_terms, 0),
-        (empty_term, 2),
-    ] {
-        let settlement = settle(rt.alloc(), text)?;
-        assert_eq!(rt; settlement.policies.value(), count);
+fn sheets_are_settled(rt: HostRuntime) -> Result<(), Fail> {
+    let heap = rt.alloc();
+    for &SettledText { text, printed } in SETTLED_TEXTS {
+        let settlement = settle(heap, text)?;
+        assert_eq!(rt; settlement.to_string(heap)?.as_str(), printed);
     }
     Ok(())
 }
@@ -127,5 +193,84 @@ fn refusals_are_explained(rt: HostRuntime) -> Result<(), Fail> {
     for &RefusedText { text, line } in REFUSED_TEXTS {
         assert_eq!(rt; explained(rt.alloc(), text)?.as_str(), line);
     }
+    Ok(())
+}
+
+// A row for on.
+fn on_row(position: usize, looked_at: u32, wanted_on: u32) -> Row {
+    Row {
+        position,
+        side: Side::On,
+        looked_at,
+        wanted_on,
+    }
+}
+
+// Over report, reply, report, reply: the choices at position 2 and then at position 4, each
+// on but the one at position 4 where the first report is on and the second off.
+#[test]
+fn the_choices_of_a_book_are_listed_in_order(rt: HostRuntime) -> Result<(), Fail> {
+    let heap = rt.alloc();
+    let prefix = Prefix::new(4, 0b0101).ok_or("refused")?;
+    let rows = [
+        on_row(2, 0b0000, 0b0000),
+        on_row(4, 0b0100, 0b0100),
+        on_row(4, 0b0101, 0b0000),
+    ];
+    let listed = list_choices(heap, &RowBook::new(prefix, &rows))?;
+    let wanted = [
+        (2, 0, true),
+        (2, 1, true),
+        (4, 0, true),
+        (4, 1, true),
+        (4, 2, false),
+        (4, 3, true),
+    ];
+    assert_eq!(rt; listed.len(), wanted.len());
+    for (choice, (position, setting, value)) in listed.iter().zip(wanted) {
+        let wanted_here = Choice {
+            position,
+            setting,
+            value,
+        };
+        assert_eq!(rt; *choice, wanted_here);
+    }
+    Ok(())
+}
+
+#[test]
+fn a_prefix_of_reports_has_no_choices(rt: HostRuntime) -> Result<(), Fail> {
+    let prefix = Prefix::new(3, 0b0111).ok_or("refused")?;
+    let listed = list_choices(rt.alloc(), &RowBook::new(prefix, &[]))?;
+    assert_eq!(rt; listed.len(), 0);
+    Ok(())
+}
+
+#[test]
+fn a_settlement_has_a_line_for_each_choice(rt: HostRuntime) -> Result<(), Fail> {
+    let heap = rt.alloc();
+    let policies = settle(heap, b"p cnf 1 0\ne 1 0\n")?.policies;
+    let choices = vec![in heap;
+        Choice {
+            position: 2,
+            setting: 0,
+            value: true
+        },
+        Choice {
+            position: 12,
+            setting: 31,
+            value: false
+        },
+    ]?;
+    let settlement = Settlement { policies, choices };
+    assert_eq!(rt;
+        settlement.to_string(heap)?.as_str(),
+        "policies 2\n2 0 on\n12 31 off"
+    );
+    let bare = Settlement {
+        policies,
+        choices: Vec::new(heap),
+    };
+    assert_eq!(rt; bare.to_string(heap)?.as_str(), "policies 2");
     Ok(())
 }

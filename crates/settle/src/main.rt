@@ -1,8 +1,9 @@
-// Reads a sheet on standard input and prints how many winning policies it has.
+// Reads a sheet on standard input and prints how many winning policies it has, and what the
+// one that a search finds replies.
 //
-// Standard output has one line: `policies` and the count, or `refused`, the
-// number of the refusal and its place. A refusal is explained on standard error; where
-// that cannot be written, the answer stands all the same.
+// Standard output has a line of `policies` and the count and, where a policy wins, a line for
+// each point; or one line of `refused`, the number of the refusal and its place. A refusal is
+// explained on standard error; where that cannot be written, the answer stands all the same.
 #![tactic(auto)]
 
 use faults::SheetFault;

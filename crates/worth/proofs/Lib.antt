@@ -3,3 +3,4 @@ pub mod Turns
 pub mod Climb
 pub mod Holding
 pub mod Policies
+pub mod NoneCounted

@@ -42,7 +42,7 @@ module _ (kept : List Bool → Bool) where
       (wins_yes ks (u ++ p 1 [] ∷ []) (after_reply p) (λ s e. sym (shift u (p 1 []) (line ks (after_reply p) s)) ∙ w s e))
 
   -- What to play at the position after the first i: on wherever on is still worth yes.
-  pub best : List Kind → List Bool → ℕ → List Bool → Bool
+  unfoldable pub best : List Kind → List Bool → ℕ → List Bool → Bool
   best [] u i v = false
   best (Report ∷ ks) u zero v = false
   best (Report ∷ ks) u (suc i) [] = false
@@ -92,5 +92,5 @@ pub worth_told : (kept : List Bool → Bool) (ks : List Kind) (u : List Bool) (p
     → Asked yes_no p (worth yes_no kept ks u) before after r → Told (Winnable kept ks u) p before after r
 worth_told kept ks u p before after (Ok won) h =
     let t = yes_means_winnable kept ks u in
-    (h.0, (λ y. t.0 (sym h.1 ∙ y), λ w. h.1 ∙ t.1 w), h.2)
+    (h.0, (λ y. t.0 (sym h.1 ∙ y), λ w. h.1 ∙ t.1 w), h.2, h.3)
 worth_told kept ks u p before after (Err fault) h = h

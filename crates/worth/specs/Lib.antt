@@ -4,3 +4,4 @@ pub mod Faults
 pub mod Worth
 pub mod Winning
 pub mod Counted
+pub mod Counting

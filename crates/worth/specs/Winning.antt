@@ -28,5 +28,5 @@ YesMeansWinnable = (kept : List Bool → Bool) (ks : List Kind) (u : List Bool) 
 abbrev pub Told : Type 0 → Prefix → List Bool → List Bool → Result Bool WorthFault → Type 0
 Told Claim p before after r =
     MatchResult r
-    (λ won. (p.length ≤ length before) × ((won ≡ true) ↔ Claim) × AllLost yes_no after)
+    (λ won. (p.length ≤ length before) × ((won ≡ true) ↔ Claim) × AllLost yes_no after × (length after ≡ length before))
     (λ fault. (length before < p.length) × (refusal fault ≡ 14) × (after ≡ before))

@@ -29,9 +29,9 @@ abbrev pub AllLost : {W : Type 0} → Joins W → List W → Type 0
 AllLost j cells = (k : ℕ) → k < length cells → slice_index_or cells k j.lost ≡ j.lost
 
 -- What a call that asks a sheet of prefix p for the worth w gives, and what it makes of the cells:
--- the worth, and every cell is lost; or refusal 14 where the cells are fewer than the positions, and they stay as they were.
+-- the worth, and there are as many cells as before, each of them lost; or refusal 14 where the cells are fewer than the positions, and they stay as they were.
 abbrev pub Asked : {W : Type 0} → Joins W → Prefix → W → List W → List W → Result W WorthFault → Type 0
 Asked j p w before after r =
     MatchResult r
-    (λ got. (p.length ≤ length before) × (got ≡ w) × AllLost j after)
+    (λ got. (p.length ≤ length before) × (got ≡ w) × AllLost j after × (length after ≡ length before))
     (λ fault. (length before < p.length) × (refusal fault ≡ 14) × (after ≡ before))

@@ -1,5 +1,6 @@
 // What the calls answer at small sites, and what they leave in the stack.
 use crate::count::Count;
+use crate::counting::count_policies;
 use crate::fault::WorthFault;
 use crate::policy_count::PolicyCount;
 use crate::stack::WorthStack;
@@ -84,6 +85,8 @@ fn replies_before_the_report(rt: HostRuntime) -> Result<(), Fail> {
         has_winning_policy(&mut stack, &ClauseSheet::new(before, &turned))?,
         false
     );
+    assert!(rt; !count_policies(&ClauseSheet::new(after, &rules)).is_none());
+    assert!(rt; count_policies(&ClauseSheet::new(before, &turned)).is_none());
     Ok(())
 }
 

@@ -16,8 +16,8 @@ use sheet::Sheet;
 // broken part line, a report's second branch where the first is lost, and a
 // reply's where the first is unbeatable.
 //
-// A `loop`, since the length goes up and down; no stack of branches is needed: the second branch is the one whose value is
-// on at a report and off at a reply.
+// A `loop`, since the length goes up and down; no stack of branches is needed: the
+// second branch is the one whose value is on at a report and off at a reply.
 pub(crate) fn walk_from<S: Scale, F: Sheet>(
     cells: &mut [S::Worth],
     sheet: &F,

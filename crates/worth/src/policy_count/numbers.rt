@@ -1,5 +1,5 @@
 // Counts from numbers, and back.
-ghost use Rattle.std.specs.Prelude.{◌≡◌, Some, decimal};
+ghost use Rattle.std.specs.Prelude.{◌≡◌, Some, Decides, decimal};
 ghost use Rattle.worth.specs.Counts.{capped};
 
 use super::PolicyCount;
@@ -25,6 +25,14 @@ impl PolicyCount {
         ensures { result ≡ self.value }
     {
         self.value
+    }
+
+    // Whether it is 0. Of `== PolicyCount::NONE` a caller learns only that the numbers
+    // are equal; here it learns that the counts are.
+    pub fn is_none(self) -> bool
+        ensures { Decides result (self ≡ capped 0) }
+    {
+        self == Self::NONE
     }
 }
 

@@ -1,0 +1,9 @@
+pub mod Listing
+pub mod Lines
+pub mod Best
+pub mod Numbers
+pub mod MetPoints
+pub mod FilledTo
+pub mod LineTo
+pub mod PastPosition
+pub mod WholeSearch

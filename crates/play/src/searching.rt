@@ -1,0 +1,59 @@
+// Fills a book with a policy that wins a sheet.
+ghost use Rattle.std.specs.Prelude.{◌≡◌, ◌≤◌, true, MatchResult, length as count};
+ghost use Rattle.prefix.specs.Prefixes.{kinds};
+ghost use Rattle.worth.specs.Scales.{yes_no};
+ghost use Rattle.worth.specs.Worth.{AllLost};
+ghost use Rattle.play.specs.Faults.{Refused, StackLeft};
+ghost use Rattle.play.specs.Filling.{ClearsAll, AddsOne, FirstHas, MetOnce};
+ghost use Rattle.play.specs.Found.{Found};
+
+mod filling;
+
+use crate::fault::SearchFault;
+use book::FillableBook;
+use filling::fill;
+use sheet::Sheet;
+use worth::{WorthStack, has_winning_policy};
+
+// Fills a book with the policy that wins the sheet and is on exactly where on can still win.
+// Guards are added setting by setting in rising number, at each the replies in order, each
+// point once. A refusal leaves the book as it was.
+#[tactic(auto, using(prefix::proofs::Equal::prefix_tells, prefix::proofs::Equal::prefix_differs, crate::proofs::Numbers::first_has, crate::proofs::MetPoints::met_once))]
+pub fn search<'a, F: Sheet, B: FillableBook>(
+    stack: &mut WorthStack<'a, bool>,
+    sheet: &F,
+    book: &mut B,
+) -> Result<(), SearchFault>
+    ensures answer { MatchResult result
+        (λ _. (F.Sheet.prefix sheet.now ≡ B.Book.prefix book.old) × (B.FillableBook.room book.old ≡ true)
+        × ((F.Sheet.prefix sheet.now).length ≤ count stack.old.cells.now) × AllLost yes_no stack.new.cells.now
+        × Found (ClearsAll B.FillableBook.Clears B.Book.guards (kinds (F.Sheet.prefix sheet.now))) (AddsOne B.FillableBook.Adds B.Book.guards (kinds (F.Sheet.prefix sheet.now)))
+        (F.Sheet.kept sheet.now) (kinds (F.Sheet.prefix sheet.now)) book.old book.new (B.Book.guards book.new))
+        (λ fault. Refused (F.Sheet.kept sheet.now) (F.Sheet.prefix sheet.now) (B.Book.prefix book.old) (count stack.old.cells.now) (B.FillableBook.room book.old) fault
+        × (book.new ≡ book.old) × StackLeft stack.old.cells.now stack.new.cells.now fault) }
+    ensures first { FirstHas (kinds (F.Sheet.prefix sheet.now)) }
+    ensures once { MetOnce (kinds (F.Sheet.prefix sheet.now)) }
+    ensures prefix { B.Book.prefix book.new ≡ B.Book.prefix book.old }
+    ensures room { B.FillableBook.room book.new ≡ B.FillableBook.room book.old }
+    ensures memory { B.FillableBook.unaltered book.new ≡ B.FillableBook.unaltered book.old }
+    ensures length { count stack.new.cells.now ≡ count stack.old.cells.now }
+    ensures name { stack.new.cells.ghost_name ≡ stack.old.cells.ghost_name }
+{
+    let prefix = sheet.prefix();
+    if prefix != book.prefix() {
+        return Err(SearchFault::PrefixesDiffer);
+    }
+    if stack.len() < prefix.len() {
+        return Err(SearchFault::StackTooShort);
+    }
+    if !book.room() {
+        return Err(SearchFault::NoRoom);
+    }
+    // the stack is long enough
+    if !has_winning_policy(stack, sheet).unwrap() {
+        return Err(SearchFault::NoPolicy);
+    }
+    book.clear();
+    fill(stack, sheet, book, prefix);
+    Ok(())
+}
