@@ -48,7 +48,26 @@ impl Large {
             reports: 0x000fff,
             width: 3,
         },
+        Large {
+            name: "in-fours",
+            form: Form::Cnf,
+            reports: 0x0f0f0f,
+            width: 8,
+        },
+        Large {
+            name: "long-terms",
+            form: Form::Dnf,
+            reports: 0x000fff,
+            width: 14,
+        },
     ];
+
+    pub(crate) fn named(name: &str) -> anyhow::Result<&'static Large> {
+        Large::ALL
+            .iter()
+            .find(|sheet| sheet.name == name)
+            .context("no sheet has that name")
+    }
 
     pub(crate) fn prefix(&self) -> anyhow::Result<Prefix> {
         Prefix::new(Prefix::MOST_POSITIONS, self.reports).context(
