@@ -52,7 +52,7 @@ before_last : (e j n : ℕ) → j ≤ e → comes_before (e + 1) 0 j n ≡ true
 before_last e j n h = grind (arith, nat_tests)
 
 -- The setting of a point has one of the numbers of its position.
-number_within : (ks : List Kind) (k j : ℕ) (w : List Bool) → Point ks j w → j ≡ k → number w < points_at ks k
+pub number_within : (ks : List Kind) (k j : ℕ) (w : List Bool) → Point ks j w → j ≡ k → number w < points_at ks k
 number_within ks k j w o e =
     let r : is_reply ks k ≡ true = ap (is_reply ks) (sym e) ∙ ap some_reply o.0 in
     let n : points_at ks k ≡ 2 ^ reports_before ks k = ap (λ (b : Bool). cond b (2 ^ reports_before ks k) 0) r in

@@ -1,8 +1,8 @@
 -- The choices of a policy as they are listed, one point more at a time.
-use Rattle.std.proofs.Common.{◌≡◌, ℕ, ◌+◌, ◌^◌, ◌≤◌, ◌<◌, Bool, true, cond, ◌⊎◌, List, [], ◌∷◌, ◌++◌, length, refl, sym, ap, ◌∙◌, subst, ⊎_elim, inl, inr, arith}
+use Rattle.std.proofs.Common.{◌≡◌, ℕ, ◌+◌, ◌≤◌, ◌<◌, Bool, true, ◌⊎◌, List, [], ◌∷◌, ◌++◌, length, refl, sym, ap, ◌∙◌, subst, ⊎_elim, inl, inr, arith}
 use Rattle.std.proofs.lemmas.Bool.{cases_lt}
 use Rattle.std.proofs.lemmas.Bool.Decides.{nat_tests}
-use Rattle.prefix.specs.Kinds.{some_reply, is_reply, reports_before}
+use Rattle.prefix.specs.Kinds.{is_reply, reports_before}
 use Rattle.prefix.specs.Lines.{setting_before, SettingMask}
 use Rattle.prefix.specs.Points.{Point, points_at}
 use Rattle.prefix.specs.Policies.{Policy}
@@ -10,12 +10,12 @@ use Rattle.prefix.specs.Prefixes.{kinds}
 use Rattle.prefix.specs.Settings.{number}
 use Rattle.prefix.specs.declared.kind.Kind.{Kind}
 use Rattle.prefix.specs.declared.prefix.Prefix.{Prefix}
-use Rattle.prefix.proofs.Settings.{number-below, number-apart}
+use Rattle.prefix.proofs.Settings.{number-apart}
 use Rattle.prefix.proofs.Replies.{reply_within, point_of}
 use Rattle.book.specs.CopySteps.{comes_before}
 use Rattle.book.specs.Guards.{Guards, answer}
 use Rattle.book.specs.declared.side.Side.TheVariants.{On}
-use Rattle.book.proofs.Copies.{answer_at}
+use Rattle.book.proofs.Copies.{answer_at, number_within}
 use Rattle.play.specs.Listing.{Lists}
 use Rattle.jobs.specs.Choices.{choice_of, ListedBefore}
 use Rattle.jobs.specs.Steps.{ListsTo}
@@ -28,14 +28,6 @@ before_true k s j n h = grind (arith, nat_tests)
 
 before_less : (k s j n : ℕ) → (j < k) ⊎ ((j ≡ k) × (n < s)) → comes_before k s j n ≡ true
 before_less k s j n h = grind (arith, nat_tests)
-
--- The setting of a point has one of the numbers of its position.
-number_within : (ks : List Kind) (k j : ℕ) (w : List Bool) → Point ks j w → j ≡ k → number w < points_at ks k
-number_within ks k j w o e =
-    let r : is_reply ks k ≡ true = ap (is_reply ks) (sym e) ∙ ap some_reply o.0 in
-    let n : points_at ks k ≡ 2 ^ reports_before ks k = ap (λ (b : Bool). cond b (2 ^ reports_before ks k) 0) r in
-    let u : length w ≡ reports_before ks k = o.1 ∙ ap (reports_before ks) e in
-    omega (arith, n, number-below w, ap (λ (i : ℕ). 2 ^ i) u)
 
 module _ (ks : List Kind) (p : Policy) where
   -- The points before position k and setting s.
