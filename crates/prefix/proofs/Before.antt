@@ -19,7 +19,7 @@ values_none : (ks : List Kind) → report_values ks [] ≡ []
 values_none [] = refl
 values_none (q ∷ ks) = refl
 
-length-values : (ks : List Kind) (w : List Bool) → length (report_values ks w) ≡ report_count (take (length w) ks)
+pub length-values : (ks : List Kind) (w : List Bool) → length (report_values ks w) ≡ report_count (take (length w) ks)
 length-values [] [] = refl
 length-values [] (x ∷ w) = refl
 length-values (q ∷ ks) [] = refl

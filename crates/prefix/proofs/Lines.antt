@@ -1,6 +1,7 @@
--- A policy's line on a setting, and that it is the only one of its make.
+-- A policy's line on a setting: that it is the only one of its make, and when two are the same.
 use Rattle.std.proofs.Common.{◌≡◌, ℕ, zero, suc, Bool, false, List, [], ◌∷◌, length, get_or, take, Some, None, Option, refl, ap, ◌∙◌, arith}
 use Rattle.prefix.specs.Kinds.{kind_at, report_values}
+use Rattle.prefix.specs.Points.{Point}
 use Rattle.prefix.specs.Settings.{Setting}
 use Rattle.prefix.specs.Policies.{Policy, after_reply, after_report, line, Plays, OneLine}
 use Rattle.prefix.specs.declared.kind.Kind.{Kind}
@@ -61,3 +62,12 @@ one_line ks = record {
   plays = λ p s e. record { whole = length-line ks p s e; reports = reports-line ks p s e; replies = replies-line ks p s e };
   only = only-line ks;
 }
+
+-- Policies that say the same at the points give the same lines.
+pub line_alike : (ks : List Kind) (p r : Policy) → ((i : ℕ) (v : List Bool) → Point ks (suc i) v → p (suc i) v ≡ r (suc i) v) → (s : List Bool) → line ks p s ≡ line ks r s
+line_alike [] p r h s = refl
+line_alike (Reply ∷ ks) p r h s =
+    ap (λ (x : Bool). x ∷ line ks (after_reply p) s) (h 0 [] (refl, refl))
+    ∙ ap (λ t. r 1 [] ∷ t) (line_alike ks (after_reply p) (after_reply r) (λ i v o. h (suc i) v o) s)
+line_alike (Report ∷ ks) p r h [] = refl
+line_alike (Report ∷ ks) p r h (x ∷ s) = ap (λ t. x ∷ t) (line_alike ks (after_report x p) (after_report x r) (λ i v o. h (suc i) (x ∷ v) (o.0, ap suc o.1)) s)

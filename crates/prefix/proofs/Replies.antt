@@ -16,12 +16,15 @@ reply_kind None e = absurd (true≢false (sym e))
 reply_kind (Some Report) e = absurd (true≢false (sym e))
 reply_kind (Some Reply) e = refl
 
--- A reply's position is 1 to n.
+-- A position that has a kind is 1 to n.
+pub kind_within : (ks : List Kind) (k : ℕ) (q : Kind) → kind_at ks k ≡ Some q → k ≤ length ks
+kind_within ks zero q e = omega arith
+kind_within [] (suc i) q e = let z : ◌≡◌ {A = ℕ} 0 1 = cc in absurd (omega arith)
+kind_within (r ∷ ks) (suc zero) q e = omega arith
+kind_within (r ∷ ks) (suc (suc i)) q e = omega (arith, kind_within ks (suc i) q e)
+
 pub reply_within : (ks : List Kind) (k : ℕ) → kind_at ks k ≡ Some Reply → k ≤ length ks
-reply_within ks zero r = omega arith
-reply_within [] (suc i) r = none_not_reply r
-reply_within (q ∷ ks) (suc zero) r = omega arith
-reply_within (q ∷ ks) (suc (suc i)) r = omega (arith, reply_within ks (suc i) r)
+reply_within ks k r = kind_within ks k Reply r
 
 pub reply_from_one : (ks : List Kind) (k : ℕ) → kind_at ks k ≡ Some Reply → 1 ≤ k
 reply_from_one ks zero r = none_not_reply r
