@@ -7,3 +7,8 @@ pub mod FilledTo
 pub mod LineTo
 pub mod PastPosition
 pub mod WholeSearch
+pub mod Verdicts
+pub mod CheckedTo
+pub mod Turns
+pub mod Chains
+pub mod PlayedTo

@@ -19,7 +19,8 @@ use Rattle.book.specs.Guards.{Guards, answer}
 use Rattle.book.specs.declared.side.Side.TheVariants.{On}
 use Rattle.play.specs.Filling.{first_number}
 use Rattle.play.specs.Searching.{OnWhereItCanWin}
-use Rattle.play.specs.Steps.{GuardsTo, LineTo}
+use Rattle.play.specs.Steps.{GuardsTo}
+use Rattle.play.specs.LineTo.{LineTo}
 use Rattle.play.proofs.Lines.{line_report, line_reply}
 use Rattle.play.proofs.MetPoints.{met_earlier}
 use Rattle.play.proofs.Numbers.{first_at_most, first_only}

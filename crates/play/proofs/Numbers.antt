@@ -38,7 +38,7 @@ values_append (q ∷ ks) [] b = refl
 values_append (Report ∷ ks) (x ∷ a) b = ap (λ t. x ∷ t) (values_append ks a b)
 values_append (Reply ∷ ks) (x ∷ a) b = values_append ks a b
 
-take-bits : (i n m : ℕ) → i ≤ n → take i (bits n m) ≡ bits i m
+pub take-bits : (i n m : ℕ) → i ≤ n → take i (bits n m) ≡ bits i m
 take-bits zero n m h = refl
 take-bits (suc i) zero m h = absurd (omega arith)
 take-bits (suc i) (suc n) m h = ap (λ t. odd m ∷ t) (take-bits i n (m / 2) (omega arith))
@@ -51,14 +51,14 @@ module _ (p : Prefix) (k m : ℕ) (within : k ≤ p.length + 1) where
   abbrev pub later : List Bool
   later = report_values (drop (k - 1) (kinds p)) (drop (k - 1) (bits (p.length + 1 - 1) m))
 
-  whole_is : whole ≡ setting_before p k m ++ later
+  pub whole_is : whole ≡ setting_before p k m ++ later
   whole_is =
       let front : take (k - 1) (bits (p.length + 1 - 1) m) ≡ bits (k - 1) m = take-bits (k - 1) (p.length + 1 - 1) m (omega arith) in
       ap (report_values (kinds p)) (sym (take-append-drop (k - 1) (bits (p.length + 1 - 1) m)) ∙ ap (λ t. t ++ drop (k - 1) (bits (p.length + 1 - 1) m)) front)
       ∙ values_append (kinds p) (bits (k - 1) m) (drop (k - 1) (bits (p.length + 1 - 1) m))
       ∙ ap (λ (i : ℕ). setting_before p k m ++ report_values (drop i (kinds p)) (drop (k - 1) (bits (p.length + 1 - 1) m))) (length-bits (k - 1) m)
 
-  length-whole : length whole ≡ report_count (kinds p)
+  pub length-whole : length whole ≡ report_count (kinds p)
   length-whole =
       setting_length p (p.length + 1) m ∙ ap (reports_before (kinds p)) (add-one p.length)
       ∙ ap report_count (take_all p.length (kinds p) (omega (arith, length-kinds p.length p.reports)))

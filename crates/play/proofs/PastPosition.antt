@@ -13,7 +13,8 @@ use Rattle.book.specs.declared.side.Side.{Side}
 use Rattle.book.specs.declared.side.Side.TheVariants.{On}
 use Rattle.play.specs.Filling.{side_of, first_number}
 use Rattle.play.specs.Searching.{OnWhereItCanWin}
-use Rattle.play.specs.Steps.{FilledTo, LineTo}
+use Rattle.play.specs.Steps.{FilledTo}
+use Rattle.play.specs.LineTo.{LineTo}
 use Rattle.play.proofs.LineTo.{setting_same, value_new, value_old, only_here}
 use Rattle.play.proofs.FilledTo.{upto_position, upto_point}
 

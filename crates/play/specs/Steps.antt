@@ -1,13 +1,8 @@
 -- How far a search has come, as inner calls state it.
-use Rattle.std.specs.Prelude.{◌≡◌, ℕ, ◌-◌, ◌≤◌, Bool, true, not, ◌&&◌, ◌||◌, List, length, take, ◌==◌, nat_lt}
-use Rattle.prefix.specs.Bits.{bits, mask_value}
-use Rattle.prefix.specs.Kinds.{is_report}
-use Rattle.prefix.specs.Lines.{setting_before}
+use Rattle.std.specs.Prelude.{◌≡◌, ℕ, ◌≤◌, Bool, true, not, ◌&&◌, ◌||◌, List, length, ◌==◌, nat_lt}
 use Rattle.prefix.specs.Points.{Point}
-use Rattle.prefix.specs.Policies.{Policy, line}
-use Rattle.prefix.specs.Prefixes.{kinds}
+use Rattle.prefix.specs.Policies.{Policy}
 use Rattle.prefix.specs.declared.kind.Kind.{Kind}
-use Rattle.prefix.specs.declared.prefix.Prefix.{Prefix}
 use Rattle.worth.specs.Scales.{yes_no}
 use Rattle.worth.specs.Worth.{AllLost}
 use Rattle.book.specs.Guards.{Guards}
@@ -46,8 +41,3 @@ pub record AddedTo {B : Type 0} (Adds : B → Side → ℕ → List Bool → B �
 -- Both, of a book that was `start` before the first guard, is `now`, and has the guards g.
 abbrev pub FilledTo : {B : Type 0} → (B → Side → ℕ → List Bool → B → Type 0) → List Kind → Policy → ℕ → ℕ → B → B → Guards → Type 0
 FilledTo Adds ks p s j start now g = GuardsTo ks p s j g × AddedTo Adds ks p s j start now
-
--- The mask m has the reports of the mask of a setting, and before position j the replies of the policy p.
-pub record LineTo (q : Prefix) (p : Policy) (setting j m : ℕ) : Type 0 where
-  pub reports : (i : ℕ) → is_report (kinds q) i ≡ true → mask_value m i ≡ mask_value setting i
-  pub replies : bits (j - 1) m ≡ line (take (j - 1) (kinds q)) p (setting_before q j m)

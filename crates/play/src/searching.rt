@@ -3,13 +3,13 @@ ghost use Rattle.std.specs.Prelude.{◌≡◌, ◌≤◌, true, MatchResult, len
 ghost use Rattle.prefix.specs.Prefixes.{kinds};
 ghost use Rattle.worth.specs.Scales.{yes_no};
 ghost use Rattle.worth.specs.Worth.{AllLost};
-ghost use Rattle.play.specs.Faults.{Refused, StackLeft};
+ghost use Rattle.play.specs.SearchFaults.{Refused, StackLeft};
 ghost use Rattle.play.specs.Filling.{ClearsAll, AddsOne, FirstHas, MetOnce};
 ghost use Rattle.play.specs.Found.{Found};
 
 mod filling;
 
-use crate::fault::SearchFault;
+use crate::search_fault::SearchFault;
 use book::FillableBook;
 use filling::fill;
 use sheet::Sheet;

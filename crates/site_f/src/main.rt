@@ -1,8 +1,11 @@
-// Prints how many winning policies site F and some small sheets have.
+// Prints how many winning policies site F and some small sheets have, and plays a round on
+// site F.
 #![tactic(auto)]
 
+mod round;
 mod sample;
 
+use round::play_round;
 use sample::Sample;
 use worth::count_policies_of;
 
@@ -10,7 +13,7 @@ fn main(rt: HostRuntime) -> anyhow::Result<()> {
     for sample in Sample::ALL {
         show(&rt, sample)?;
     }
-    Ok(())
+    play_round(&rt, &Sample::SITE_F)
 }
 
 fn show(rt: &HostRuntime, sample: &Sample) -> anyhow::Result<()> {

@@ -1,4 +1,4 @@
-// The sheets that the program counts, as values.
+// The sheets that the program counts and plays on, as values.
 use anyhow::Context;
 use prefix::Prefix;
 use sheet::{Form, Literal, Rule};
@@ -16,14 +16,16 @@ pub(crate) struct Sample {
 }
 
 impl Sample {
+    pub(crate) const SITE_F: Sample = Sample {
+        name: "site F",
+        form: Form::Cnf,
+        length: 4,
+        reports: 0b0101,
+        rules: &[&[2, 3], &[-2, -3, 4], &[-2, 3, -1, -4], &[-2, 3, 1, 4]],
+    };
+
     pub(crate) const ALL: &'static [Sample] = &[
-        Sample {
-            name: "site F",
-            form: Form::Cnf,
-            length: 4,
-            reports: 0b0101,
-            rules: &[&[2, 3], &[-2, -3, 4], &[-2, 3, -1, -4], &[-2, 3, 1, 4]],
-        },
+        Sample::SITE_F,
         Sample {
             name: "a report, then two replies",
             form: Form::Cnf,

@@ -9,7 +9,8 @@ ghost use Rattle.prefix.specs.Prefixes.{kinds};
 ghost use Rattle.book.specs.Guards.{AllNo, Added};
 ghost use Rattle.play.specs.Filling.{AddsOne, first_number, side_of};
 ghost use Rattle.play.specs.Searching.{OnWhereItCanWin};
-ghost use Rattle.play.specs.Steps.{Ready, StillReady, FilledTo, LineTo};
+ghost use Rattle.play.specs.Steps.{Ready, StillReady, FilledTo};
+ghost use Rattle.play.specs.LineTo.{LineTo};
 
 use book::{FillableBook, Side};
 use prefix::{Line, PartLine, Prefix};

@@ -3,7 +3,8 @@ use Rattle.prefix.specs.Policies.{Policy}
 use Rattle.prefix.specs.Prefixes.{kinds}
 use Rattle.play.specs.Filling.{AddsOne}
 use Rattle.play.specs.Searching.{OnWhereItCanWin}
-use Rattle.play.specs.Steps.{StillReady, FilledTo, LineTo}
+use Rattle.play.specs.Steps.{StillReady, FilledTo}
+use Rattle.play.specs.LineTo.{LineTo}
 use Rattle.play.proofs.searching.filling.take_setting.Given as goal
 
 abbrev pub invariant-loop-position : goal.invariant-loop-position

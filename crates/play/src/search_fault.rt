@@ -1,6 +1,6 @@
 // Why a sheet is not searched for a book.
 ghost use Rattle.std.specs.Prelude.{◌≡◌, Some};
-ghost use Rattle.play.specs.Faults.{refusal, message};
+ghost use Rattle.play.specs.SearchFaults.{refusal, message};
 
 use std::error::Error;
 use std::fmt;

@@ -4,8 +4,8 @@ use Rattle.prefix.specs.declared.prefix.Prefix.{Prefix}
 use Rattle.worth.specs.Scales.{yes_no}
 use Rattle.worth.specs.Winning.{WinnableOf}
 use Rattle.worth.specs.Worth.{AllLost}
-use Rattle.play.specs.declared.fault.SearchFault.{SearchFault}
-use Rattle.play.specs.declared.fault.SearchFault.TheVariants.{PrefixesDiffer, StackTooShort, NoRoom, NoPolicy}
+use Rattle.play.specs.declared.search_fault.SearchFault.{SearchFault}
+use Rattle.play.specs.declared.search_fault.SearchFault.TheVariants.{PrefixesDiffer, StackTooShort, NoRoom, NoPolicy}
 
 abbrev pub refusal : SearchFault → ℕ
 refusal PrefixesDiffer = 13
