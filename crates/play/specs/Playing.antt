@@ -22,8 +22,8 @@ pub record ByChain {F B : Type 0} (prefix : B → Prefix) (guards : B → Guards
   pub answers_given : answers_of made ≡ given
   pub last_values : values_of so_far ≡ values last
 
--- So answers and values are those of the plain round; the answers past these calls are as before; after however many of the
--- calls no broken line is completed; and each is refused exactly where it should be.
+-- What that comes to: answers and values are those of the plain round; the answers past these calls are as before; after
+-- however many of the calls no broken line is completed; and each is refused exactly where it should be.
 pub record PlayedAll (kept : List Bool → Bool) (g : Guards) (ks : List Kind) (calls : List Call) (before after : List Answer) (so_far : PartLine) : Type 0 where
   pub answers : after ≡ plain.answers ks g [] calls ++ drop (length calls) before
   pub values_are : values_of so_far ≡ plain.values_after ks g [] calls

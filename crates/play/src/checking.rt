@@ -17,9 +17,11 @@ use sheet::Sheet;
 // its line.
 #[tactic(auto, using(prefix::proofs::Equal::prefix_tells, prefix::proofs::Equal::prefix_differs, crate::proofs::Verdicts::one_verdict))]
 pub fn check<F: Sheet, B: Book>(sheet: &F, book: &B) -> Result<Checked, CheckFault>
-    ensures answer { MatchResult result
-        (λ checked. (F.Sheet.prefix sheet.now ≡ B.Book.prefix book.now) × Concludes (F.Sheet.kept sheet.now) (B.Book.guards book.now) (kinds (F.Sheet.prefix sheet.now)) checked)
-        (λ fault. Refused (F.Sheet.prefix sheet.now) (B.Book.prefix book.now) fault) }
+    ensures answer { let p = F.Sheet.prefix sheet.now in
+        let q = B.Book.prefix book.now in
+        MatchResult result
+        (λ checked. (p ≡ q) × Concludes (F.Sheet.kept sheet.now) (B.Book.guards book.now) (kinds p) checked)
+        (λ fault. Refused p q fault) }
     ensures one { OneVerdict (F.Sheet.kept sheet.now) (B.Book.guards book.now) (kinds (F.Sheet.prefix sheet.now)) }
 {
     let prefix = sheet.prefix();

@@ -27,13 +27,15 @@ pub fn play_calls<F: Sheet, B: Book>(
     calls: &[Call],
     answers: &mut [Answer],
 ) -> Result<Played, OpenFault>
-    ensures answer { MatchResult result
-        (λ played. (F.Sheet.prefix sheet.now ≡ B.Book.prefix book.now)
-        × MeansWinning (F.Sheet.kept sheet.now) (B.Book.guards book.now) (kinds (F.Sheet.prefix sheet.now))
-        × (played.calls ≡ min (count calls.now) (count answers.old))
-        × PlayedAll (F.Sheet.kept sheet.now) (B.Book.guards book.now) (kinds (F.Sheet.prefix sheet.now)) (take played.calls calls.now) answers.old answers.new played.so_far
+    ensures answer { let kept = F.Sheet.kept sheet.now in
+        let g = B.Book.guards book.now in
+        let p = F.Sheet.prefix sheet.now in
+        let q = B.Book.prefix book.now in
+        MatchResult result
+        (λ played. (p ≡ q) × MeansWinning kept g (kinds p) × (played.calls ≡ min (count calls.now) (count answers.old))
+        × PlayedAll kept g (kinds p) (take played.calls calls.now) answers.old answers.new played.so_far
         × ByChain B.Book.prefix B.Book.guards F.Sheet.kept sheet.entry book.entry (take played.calls calls.now) (take played.calls answers.new) played.so_far)
-        (λ fault. Refused (F.Sheet.kept sheet.now) (B.Book.guards book.now) (F.Sheet.prefix sheet.now) (B.Book.prefix book.now) fault × (answers.new ≡ answers.old)) }
+        (λ fault. Refused kept g p q fault × (answers.new ≡ answers.old)) }
 {
     let mut round = open(sheet, book)?;
     let played = calls.len().min(answers.len());

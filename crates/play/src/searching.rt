@@ -24,13 +24,16 @@ pub fn search<'a, F: Sheet, B: FillableBook>(
     sheet: &F,
     book: &mut B,
 ) -> Result<(), SearchFault>
-    ensures answer { MatchResult result
-        (λ _. (F.Sheet.prefix sheet.now ≡ B.Book.prefix book.old) × (B.FillableBook.room book.old ≡ true)
-        × ((F.Sheet.prefix sheet.now).length ≤ count stack.old.cells.now) × AllLost yes_no stack.new.cells.now
-        × Found (ClearsAll B.FillableBook.Clears B.Book.guards (kinds (F.Sheet.prefix sheet.now))) (AddsOne B.FillableBook.Adds B.Book.guards (kinds (F.Sheet.prefix sheet.now)))
-        (F.Sheet.kept sheet.now) (kinds (F.Sheet.prefix sheet.now)) book.old book.new (B.Book.guards book.new))
-        (λ fault. Refused (F.Sheet.kept sheet.now) (F.Sheet.prefix sheet.now) (B.Book.prefix book.old) (count stack.old.cells.now) (B.FillableBook.room book.old) fault
-        × (book.new ≡ book.old) × StackLeft stack.old.cells.now stack.new.cells.now fault) }
+    ensures answer { let kept = F.Sheet.kept sheet.now in
+        let p = F.Sheet.prefix sheet.now in
+        let q = B.Book.prefix book.old in
+        let ks = kinds p in
+        let room = B.FillableBook.room book.old in
+        let cells = count stack.old.cells.now in
+        MatchResult result
+        (λ _. (p ≡ q) × (room ≡ true) × (p.length ≤ cells) × AllLost yes_no stack.new.cells.now
+        × Found (ClearsAll B.FillableBook.Clears B.Book.guards ks) (AddsOne B.FillableBook.Adds B.Book.guards ks) kept ks book.old book.new (B.Book.guards book.new))
+        (λ fault. Refused kept p q cells room fault × (book.new ≡ book.old) × StackLeft stack.old.cells.now stack.new.cells.now fault) }
     ensures first { FirstHas (kinds (F.Sheet.prefix sheet.now)) }
     ensures once { MetOnce (kinds (F.Sheet.prefix sheet.now)) }
     ensures prefix { B.Book.prefix book.new ≡ B.Book.prefix book.old }
