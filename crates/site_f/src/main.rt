@@ -13,7 +13,7 @@ fn main(rt: HostRuntime) -> anyhow::Result<()> {
     for sample in Sample::ALL {
         show(&rt, sample)?;
     }
-    play_round(&rt, &Sample::SITE_F)
+    play_round(&rt)
 }
 
 fn show(rt: &HostRuntime, sample: &Sample) -> anyhow::Result<()> {

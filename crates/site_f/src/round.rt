@@ -17,9 +17,10 @@ const CALLS: [Call; 7] = [
     Call::Reply,
 ];
 
-// Searches a book for the sample's clauses, makes the calls, and prints each with its answer.
-pub(crate) fn play_round(rt: &HostRuntime, sample: &Sample) -> anyhow::Result<()> {
+// Searches a book for site F's clauses, makes the calls, and prints each with its answer.
+pub(crate) fn play_round(rt: &HostRuntime) -> anyhow::Result<()> {
     let heap = rt.alloc();
+    let sample = &Sample::SITE_F;
     let prefix = sample.prefix()?;
     let rules = sample.rules(heap)?;
     let sheet = ClauseSheet::new(prefix, &rules);
