@@ -8,8 +8,10 @@ use std::fmt;
 pub enum Layer {
     // the bytes
     Text,
-    // what the words say
+    // what the words of a sheet say
     Sheet,
+    // the numbers of a book's file
+    Book,
 }
 
 // One word.
@@ -20,6 +22,7 @@ impl fmt::Display for Layer {
         match self {
             Layer::Text => write!(f, "text"),
             Layer::Sheet => write!(f, "sheet"),
+            Layer::Book => write!(f, "book"),
         }
     }
 }
