@@ -8,6 +8,7 @@ pub mod LineTo
 pub mod PastPosition
 pub mod WholeSearch
 pub mod Verdicts
+pub mod AlikeBooks
 pub mod CheckedTo
 pub mod Turns
 pub mod Chains

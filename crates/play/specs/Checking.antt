@@ -4,7 +4,7 @@ use Rattle.prefix.specs.Kinds.{is_reply, report_count, reports_before}
 use Rattle.prefix.specs.Policies.{Policy, line, Wins}
 use Rattle.prefix.specs.Settings.{Setting, number}
 use Rattle.prefix.specs.declared.kind.Kind.{Kind}
-use Rattle.book.specs.Guards.{Guards, Means}
+use Rattle.book.specs.Guards.{Guards, Means, SameGuards}
 use Rattle.book.specs.declared.side.Side.TheVariants.{On, Off}
 use Rattle.play.specs.Verdicts.{verdict_number}
 use Rattle.play.specs.declared.verdict.Checked.{Checked}
@@ -83,6 +83,10 @@ Judged kept g ks (Broken n) = FirstFault kept g ks (Broken n)
 -- A book has no two verdicts.
 abbrev pub OneVerdict : (List Bool → Bool) → Guards → List Kind → Type 0
 OneVerdict kept g ks = (v w : Verdict) → Judged kept g ks v → Judged kept g ks w → v ≡ w
+
+-- Books whose guards are the same at every point have the same verdict.
+abbrev pub AlikeVerdicts : (List Bool → Bool) → Guards → List Kind → Type 0
+AlikeVerdicts kept g ks = (h : Guards) → SameGuards ks g h → (v : Verdict) → Judged kept h ks v ↔ Judged kept g ks v
 
 -- What a check gives: the verdict, which is accepted exactly when the book means a policy that wins, and of the number of
 -- settings that were tried only that there is one at least, and no more than there are settings.
