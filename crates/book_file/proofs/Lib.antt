@@ -1,0 +1,16 @@
+pub mod Grouping
+pub mod Sizes
+pub mod Putting
+pub mod Rows
+pub mod Apart
+pub mod Beginning
+pub mod Deciding
+pub mod Standing
+pub mod Taking
+pub mod SettingMasks
+pub mod ExactRows
+pub mod OneList
+pub mod ListedSteps
+pub mod TableRows
+pub mod Listings
+pub mod ReadSteps

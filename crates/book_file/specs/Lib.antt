@@ -1,0 +1,12 @@
+pub mod Fronts
+pub mod Numbers
+pub mod Files
+pub mod FieldWords
+pub mod Fields
+pub mod Refusing
+pub mod Faults
+pub mod Reading
+pub mod Writing
+pub mod Steps
+pub mod Listing
+pub mod ListSteps

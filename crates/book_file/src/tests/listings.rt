@@ -1,0 +1,48 @@
+// What is listed of chosen books.
+use super::row;
+use crate::list::list_rows;
+use crate::list_fault::ListFault;
+use book::{RowBook, Side};
+use prefix::Prefix;
+use std::test::Fail;
+
+// A row that looks at nothing is one row for each setting, and a guard that two rows make
+// yes is one row.
+#[test]
+fn a_book_as_rows_of_points(rt: HostRuntime) -> Result<(), Fail> {
+    let prefix = Prefix::new(4, 0b0101).ok_or("refused")?;
+    let rows = [
+        row(4, Side::Off, 0b0001, 0b0001),
+        row(4, Side::On, 0b0101, 0b0101),
+        row(2, Side::On, 0, 0),
+        row(4, Side::Off, 0b0101, 0b0001),
+    ];
+    let book = RowBook::new(prefix, &rows);
+    let rest = row(9, Side::Off, 7, 5);
+    let mut table = [rest; 6];
+    assert_eq!(rt; list_rows(&book, &mut table), Ok(5));
+    assert_eq!(rt;
+        table,
+        [
+            row(2, Side::On, 0b0001, 0b0000),
+            row(2, Side::On, 0b0001, 0b0001),
+            row(4, Side::Off, 0b0101, 0b0001),
+            row(4, Side::On, 0b0101, 0b0101),
+            row(4, Side::Off, 0b0101, 0b0101),
+            rest,
+        ]
+    );
+    Ok(())
+}
+
+#[test]
+fn a_table_too_short_is_as_it_was(rt: HostRuntime) -> Result<(), Fail> {
+    let prefix = Prefix::new(4, 0b0101).ok_or("refused")?;
+    let rows = [row(2, Side::On, 0, 0)];
+    let book = RowBook::new(prefix, &rows);
+    let rest = row(9, Side::Off, 7, 5);
+    let mut table = [rest; 1];
+    assert_eq!(rt; list_rows(&book, &mut table), Err(ListFault::TableTooShort));
+    assert_eq!(rt; table, [rest]);
+    Ok(())
+}
