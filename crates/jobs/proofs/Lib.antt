@@ -1,4 +1,6 @@
+pub mod BookFiles
+pub mod FewRows
+pub mod OnSheets
 pub mod Positioned
 pub mod Listed
 pub mod SearchedListed
-pub mod Settled

@@ -1,6 +1,11 @@
 pub mod Choices
 pub mod Steps
 pub mod Faults
+pub mod Refusals
 pub mod Inputs
+pub mod OnSheet
 pub mod Positions
 pub mod Settling
+pub mod Passing
+pub mod WritingBooks
+pub mod FileSteps

@@ -3,16 +3,12 @@ use Rattle.std.specs.Prelude.{◌≡◌, ℕ, Bool, ◌↔◌, List, [], ◌∷�
 use Rattle.std.specs.List.{flat_map}
 use Rattle.prefix.specs.Prefixes.{kinds}
 use Rattle.prefix.specs.declared.prefix.Prefix.{Prefix}
-use Rattle.sheet.specs.Rules.{rules_kept}
-use Rattle.sheet.specs.declared.rule.Rule.{Rule}
-use Rattle.sheet_text.specs.Grammar.{Says}
-use Rattle.sheet_text.specs.Sheets.{Sheet}
 use Rattle.sheet_text.specs.Refusing.{HasFault}
-use Rattle.sheet_text.specs.Tables.{MadeOf}
 use Rattle.worth.specs.Counts.{capped, count}
 use Rattle.worth.specs.Winning.{WinnableOf}
 use Rattle.worth.specs.Worth.{worth_of}
 use Rattle.jobs.specs.Choices.{SearchedChoices, choice_text}
+use Rattle.jobs.specs.OnSheet.{OnSheet}
 use Rattle.jobs.specs.declared.choice.Choice.{Choice}
 use Rattle.jobs.specs.declared.fault.JobFault.{JobFault}
 use Rattle.jobs.specs.declared.fault.JobFault.TheVariants as fault
@@ -26,20 +22,13 @@ pub record Settles (kept : List Bool → Bool) (p : Prefix) (r : Settlement) : T
   pub choices : WinnableOf kept p → SearchedChoices kept (kinds p) r.choices.items
   pub no_choices : (WinnableOf kept p → ⊥) → r.choices.items ≡ []
 
--- It is that of the sheet that the text says, with its kinds as a prefix and its rules as rules.
-pub record Counted (t : List ℕ) (r : Settlement) : Type 0 where
-  pub sheet : Sheet
-  pub prefix : Prefix
-  pub rules : List Rule
-  pub says : Says t sheet
-  pub kinds : kinds prefix ≡ sheet.kinds
-  pub made : MadeOf sheet.rules rules
-  pub settles : Settles (rules_kept sheet.form prefix.length rules) prefix r
-
 -- The settlement of the sheet that a text says; the fault that the text has, whole; or no memory was to be had.
 abbrev pub Settled : List ℕ → Result Settlement JobFault → Type 0
-Settled t (Ok r) = Counted t r
+Settled t (Ok r) = OnSheet t (λ kept p. Settles kept p r)
 Settled t (Err (fault.Sheet f)) = HasFault t f
+Settled t (Err (fault.Book f)) = ⊥
+Settled t (Err (fault.Check f)) = ⊥
+Settled t (Err (fault.Search f)) = ⊥
 Settled t (Err fault.Memory) = Unit {0}
 
 -- A choice on a line of its own, after a line end.

@@ -1,17 +1,29 @@
 // Why a job has no result.
-ghost use Rattle.std.specs.Prelude.{◌≡◌, MatchOption};
+ghost use Rattle.std.specs.Prelude.{◌≡◌};
 ghost use Rattle.jobs.specs.Faults.{job_number, job_place, job_layer};
-ghost use Rattle.jobs.specs.declared.fault.JobFault.TheVariants.{Sheet, Memory};
+ghost use Rattle.jobs.specs.declared.fault.JobFault.TheVariants.{Sheet, Book, Check, Search, Memory};
 
+use book_file::BookFault;
 use faults::{Layer, SheetFault};
+use play::{CheckFault, SearchFault};
 use std::alloc::AllocError;
 use thiserror::Error;
 
+// Each inner fault is kept whole.
 #[derive(Clone, Copy, PartialEq, Eq, Debug, Error)]
 pub enum JobFault {
-    // the text is no sheet: the reader's fault, whole
+    // the text is no sheet
     #[error(transparent)]
     Sheet(SheetFault),
+    // the file is no book
+    #[error(transparent)]
+    Book(BookFault),
+    // the book is not checked
+    #[error(transparent)]
+    Check(CheckFault),
+    // no book is found
+    #[error(transparent)]
+    Search(SearchFault),
     // for the job's tables; this is no numbered refusal
     #[error("not enough memory")]
     Memory,
@@ -22,7 +34,31 @@ impl From<SheetFault> for JobFault {
     ghost from_gives = { λ s j. j ≡ Sheet s };
 
     fn from(inner: SheetFault) -> JobFault {
-        JobFault::Sheet(inner)
+        Self::Sheet(inner)
+    }
+}
+
+impl From<BookFault> for JobFault {
+    ghost from_gives = { λ b j. j ≡ Book b };
+
+    fn from(inner: BookFault) -> JobFault {
+        Self::Book(inner)
+    }
+}
+
+impl From<CheckFault> for JobFault {
+    ghost from_gives = { λ c j. j ≡ Check c };
+
+    fn from(inner: CheckFault) -> JobFault {
+        Self::Check(inner)
+    }
+}
+
+impl From<SearchFault> for JobFault {
+    ghost from_gives = { λ s j. j ≡ Search s };
+
+    fn from(inner: SearchFault) -> JobFault {
+        Self::Search(inner)
     }
 }
 
@@ -30,7 +66,7 @@ impl From<AllocError> for JobFault {
     ghost from_gives = { λ _ j. j ≡ Memory };
 
     fn from(_fault: AllocError) -> JobFault {
-        JobFault::Memory
+        Self::Memory
     }
 }
 
@@ -39,29 +75,33 @@ impl JobFault {
     pub fn number(self) -> Option<u8>
         ensures { result ≡ job_number self }
     {
-        self.refusal().map(|fault| fault.number())
+        match self {
+            JobFault::Sheet(fault) => Some(fault.number()),
+            JobFault::Book(fault) => Some(fault.number()),
+            JobFault::Check(fault) => Some(fault.number()),
+            JobFault::Search(fault) => Some(fault.number()),
+            JobFault::Memory => None,
+        }
     }
 
-    // Where in the text, if the text was refused.
+    // Where in the text or in the file, if one of them was refused.
     pub fn place(self) -> Option<usize>
         ensures { result ≡ job_place self }
     {
-        self.refusal().map(|fault| fault.place())
+        match self {
+            JobFault::Sheet(fault) => Some(fault.place()),
+            JobFault::Book(fault) => Some(fault.place()),
+            JobFault::Check(_) | JobFault::Search(_) | JobFault::Memory => None,
+        }
     }
 
     pub fn layer(self) -> Option<Layer>
         ensures { result ≡ job_layer self }
     {
-        self.refusal().map(|fault| fault.layer())
-    }
-
-    // The reader's fault, if the text was refused.
-    fn refusal(self) -> Option<SheetFault>
-        ensures { MatchOption result (self ≡ Memory) (λ f. self ≡ Sheet f) }
-    {
         match self {
-            JobFault::Sheet(fault) => Some(fault),
-            JobFault::Memory => None,
+            JobFault::Sheet(fault) => Some(fault.layer()),
+            JobFault::Book(fault) => Some(fault.layer()),
+            JobFault::Check(_) | JobFault::Search(_) | JobFault::Memory => None,
         }
     }
 }

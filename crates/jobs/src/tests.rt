@@ -11,6 +11,16 @@ use prefix::Prefix;
 use std::alloc::{AllocError, Global};
 use std::test::Fail;
 
+mod passes;
+mod written_books;
+
+// Reports 1 and 3, replies 2 and 4; one policy wins.
+const SITE_F: &[u8] =
+    b"p cnf 4 4\na 1 0\ne 2 0\na 3 0\ne 4 0\n2 3 0\n-2 -3 4 0\n-2 3 -1 -4 0\n-2 3 1 4 0\n";
+
+// The file of a book of four rows that means this policy.
+const SITE_F_BOOK: &[u8] = &[4, 5, 4, 2, 1, 0, 0, 4, 1, 4, 4, 4, 1, 5, 0, 4, 0, 5, 1];
+
 // A good text, made longer by empty lines: two policies for its one reply.
 fn one_reply(heap: Global, length: usize) -> Result<Vec<u8>, AllocError> {
     let mut text = b"p cnf 1 0\ne 1 0\n".to_vec(heap)?;

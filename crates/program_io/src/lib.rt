@@ -1,0 +1,11 @@
+// What the programs read, and how they refuse it.
+#![tactic(auto)]
+
+mod reading;
+mod refusing;
+
+pub use reading::read_input;
+pub use refusing::{print_refusal, refuse};
+
+#[cfg(test)]
+mod tests;
