@@ -9,13 +9,13 @@ use Rattle.prefix.specs.Lines.{setting_before}
 use Rattle.prefix.specs.Points.{Point, sum_to}
 use Rattle.prefix.specs.Prefixes.{kinds}
 use Rattle.prefix.specs.declared.prefix.Prefix.{Prefix}
-use Rattle.prefix.proofs.Points.{sum_next}
+use Rattle.prefix.proofs.Points.{sum_next, sum_grows}
 use Rattle.prefix.proofs.Positions.{length-kinds}
 use Rattle.prefix.proofs.Replies.{point_of}
 use Rattle.book.specs.Guards.{AllNo, Added, can_add}
 use Rattle.book.specs.declared.side.Side.{Side}
 use Rattle.book.specs.Tables.{words_at, words_before, word_count, suffice, words_past, table_guards, word_of, bit_of, with_bit, words_after_add, with_zeros, words_after_clear}
-use Rattle.book.proofs.Places.{sum_grows, own_bits}
+use Rattle.book.proofs.Places.{own_bits}
 
 -- One bit more of a word.
 bit_here : (x b : ℕ) → bit (bit_or x (2 ^ b)) b ≡ true

@@ -1,5 +1,5 @@
 -- Each guard has a bit of its own, within the words of its prefix.
-use Rattle.std.proofs.Common.{◌≡◌, ℕ, zero, suc, ◌+◌, ◌-◌, ◌*◌, ◌/◌, ◌^◌, ◌≤◌, ◌<◌, max, Bool, cond, List, length, Some, sym, refl, ap, ◌∙◌, subst, ⊎_elim, arith, pow_mono}
+use Rattle.std.proofs.Common.{◌≡◌, ℕ, ◌+◌, ◌-◌, ◌*◌, ◌/◌, ◌^◌, ◌≤◌, ◌<◌, max, Bool, cond, List, length, Some, sym, refl, ap, ◌∙◌, subst, ⊎_elim, arith, pow_mono}
 use Rattle.std.proofs.lemmas.Nat.{pow-add}
 use Rattle.std.proofs.lemmas.Bool.{cases_lt, cases_order}
 use Rattle.prefix.specs.Kinds.{kind_at, some_reply, reports_before}
@@ -7,19 +7,12 @@ use Rattle.prefix.specs.Points.{Point, sum_to}
 use Rattle.prefix.specs.Settings.{number}
 use Rattle.prefix.specs.declared.kind.Kind.{Kind}
 use Rattle.prefix.specs.declared.kind.Kind.TheVariants.{Reply}
-use Rattle.prefix.proofs.Points.{sum_next}
+use Rattle.prefix.proofs.Points.{sum_next, sum_grows}
 use Rattle.prefix.proofs.Replies.{reply_within, reply_from_one}
 use Rattle.prefix.proofs.Settings.{number-below, number-apart}
 use Rattle.book.specs.declared.side.Side.{Side}
 use Rattle.book.specs.declared.side.Side.TheVariants.{On, Off}
 use Rattle.book.specs.Tables.{block_words, words_at, words_before, word_count, word_of, bit_of, OwnBits}
-
-pub sum_grows : (f : ℕ → ℕ) (a b : ℕ) → a ≤ b → sum_to f a ≤ sum_to f b
-sum_grows f a zero h = let e : a ≡ 0 = omega arith in omega (arith, ap (sum_to f) e)
-sum_grows f a (suc b) h =
-    ⊎_elim (λ (l : a < suc b). omega (arith, sum_grows f a b (omega arith)))
-    (λ (l : suc b ≤ a). let e : a ≡ suc b = omega arith in omega (arith, ap (sum_to f) e))
-    (cases_lt a (suc b))
 
 -- The number of one of 2 ^ u settings lies in a block's words.
 in_block : (u s : ℕ) → s < 2 ^ u → s / 64 < max 1 (2 ^ u / 64)

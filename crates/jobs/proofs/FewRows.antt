@@ -1,24 +1,21 @@
 -- How many rows a listed policy has, and how many bytes a file.
-use Rattle.std.proofs.Common.{◌≡◌, ℕ, zero, suc, ◌+◌, ◌-◌, ◌*◌, ◌/◌, ◌%◌, ◌^◌, ◌≤◌, ◌<◌, Bool, true, false, not, cond, nat_lt, List, [], ◌∷◌, length, get_or, refl, sym, ap, ◌∙◌, subst, ⊎_elim, length-append, arith}
-use Rattle.std.proofs.lemmas.Bool.{false≢true, cases_lt}
+use Rattle.std.proofs.Common.{◌≡◌, ℕ, zero, suc, ◌+◌, ◌-◌, ◌*◌, ◌/◌, ◌%◌, ◌≤◌, ◌<◌, Bool, true, false, not, cond, nat_lt, List, [], ◌∷◌, length, get_or, refl, sym, ap, ◌∙◌, subst, ⊎_elim, length-append, arith}
+use Rattle.std.proofs.lemmas.Bool.{false≢true}
 use Rattle.std.proofs.lemmas.List.Elements.{All-get_or}
-use Rattle.prefix.specs.Kinds.{is_reply, reports_before, some_reply}
+use Rattle.prefix.specs.Kinds.{reports_before}
 use Rattle.prefix.specs.Points.{Point, points_at, sum_to, point_count}
 use Rattle.prefix.specs.Policies.{Policy}
 use Rattle.prefix.specs.Prefixes.{kinds}
 use Rattle.prefix.specs.Settings.{number}
-use Rattle.prefix.specs.declared.kind.Kind.{Kind}
 use Rattle.prefix.specs.declared.prefix.Prefix.{Prefix}
-use Rattle.prefix.proofs.Points.{sum_next}
-use Rattle.prefix.proofs.Positions.{length-kinds}
-use Rattle.prefix.proofs.Replies.{reply_within, reply_from_one}
-use Rattle.prefix.proofs.Settings.{number-below, number-apart}
+use Rattle.prefix.proofs.MostPoints.{most_points}
+use Rattle.prefix.proofs.PointCount.{setting_inside, place_inside, point_numbering}
+use Rattle.prefix.proofs.Points.{sum_grows}
+use Rattle.prefix.proofs.Settings.{number-apart}
 use Rattle.book.specs.Guards.{Guards, Means}
-use Rattle.book.specs.Tables.{block_words, words_at}
 use Rattle.book.specs.declared.row.Row.{Row}
 use Rattle.book.specs.declared.side.Side.{Side}
 use Rattle.book.specs.declared.side.Side.TheVariants.{On, Off}
-use Rattle.book.proofs.Most.{few_words}
 use Rattle.book_file.specs.Files.{row_numbers, rows_numbers, file_bytes}
 use Rattle.book_file.specs.Listing.{row_of, wanted_number, ListedBefore, Listed}
 use Rattle.book_file.specs.Numbers.{groups, number_bytes, bytes_of}
@@ -48,26 +45,9 @@ numbers_count (r ∷ rows) = omega (arith, numbers_count rows, length-append (ro
 pub file_few : (p : Prefix) (rows : List Row) → length (file_bytes p rows) ≤ 12 + 16 * length rows
 file_few p rows = omega (arith, bytes_few (p.length ∷ p.reports ∷ length rows ∷ rows_numbers rows), numbers_count rows)
 
--- Points are few enough for rows: a word of a table book has 64 guards.
-points_words : (ks : List Kind) (k : ℕ) → points_at ks k ≤ 32 * words_at ks k + 63
-points_words ks k = either (is_reply ks k)
-  where
-    either : (b : Bool) → cond b (2 ^ reports_before ks k) 0 ≤ 32 * cond b (2 * block_words ks k) 0 + 63
-    either true = omega arith
-    either false = omega arith
-
-sum_few : (ks : List Kind) (n : ℕ) → sum_to (points_at ks) n ≤ 32 * sum_to (words_at ks) n + 63 * n
-sum_few ks zero = omega arith
-sum_few ks (suc n) = omega (arith, sum_few ks n, points_words ks (suc n))
-
+-- Points are few enough for rows.
 pub points_few : (p : Prefix) → point_count (kinds p) ≤ 65535
-points_few p = omega (arith, sum_few (kinds p) (length (kinds p)), few_words p, length-kinds p.length p.reports, p.ok.1)
-
--- Sums over positions grow.
-sum_grows : (f : ℕ → ℕ) (i n : ℕ) → i ≤ n → sum_to f i ≤ sum_to f n
-sum_grows f i zero l = let e : i ≡ zero = omega arith in omega (arith, ap (sum_to f) e)
-sum_grows f i (suc n) l =
-    ⊎_elim (λ (less : i < suc n). omega (arith, sum_grows f i n (omega arith))) (λ (all : suc n ≤ i). let e : i ≡ suc n = omega arith in omega (arith, ap (sum_to f) e)) (cases_lt i (suc n))
+points_few p = omega (arith, most_points p)
 
 -- Numbers that rise, and stay below a bound, are no more than that.
 rising : (f : ℕ → ℕ) (n : ℕ) → ((i : ℕ) → suc i < n → f i < f (suc i)) → (i : ℕ) → i < n → i ≤ f i
@@ -83,16 +63,8 @@ module _ (p : Prefix) (g : Guards) (policy : Policy) (means : Means (kinds p) g 
   abbrev place : ℕ → ℕ → ℕ
   place k n = sum_to (points_at (kinds p)) (k - 1) + n
 
-  point_last : (k : ℕ) (v : List Bool) → Point (kinds p) k v → number v < points_at (kinds p) k
-  point_last k v o =
-      let e : points_at (kinds p) k ≡ 2 ^ reports_before (kinds p) k = ap (λ q. cond (some_reply q) (2 ^ reports_before (kinds p) k) 0) o.0 in
-      omega (arith, e, number-below v, ap (λ (i : ℕ). 2 ^ i) o.1)
-
   place_next : (k : ℕ) (v : List Bool) → Point (kinds p) k v → place k (number v) < sum_to (points_at (kinds p)) k
-  place_next k v o = omega (arith, point_last k v o, sum_next (points_at (kinds p)) k (reply_from_one (kinds p) k o.0))
-
-  place_below : (k : ℕ) (v : List Bool) → Point (kinds p) k v → place k (number v) < point_count (kinds p)
-  place_below k v o = omega (arith, place_next k v o, sum_grows (points_at (kinds p)) k (length (kinds p)) (reply_within (kinds p) k o.0))
+  place_next k v o = place_inside (points_at (kinds p)) refl k k (number v) (omega arith) (setting_inside (kinds p) k v o)
 
   -- At a point one guard alone is yes.
   one_side : (k : ℕ) (v : List Bool) → Point (kinds p) k v → g On k v ≡ true → g Off k v ≡ true → ⊥
@@ -134,7 +106,7 @@ module _ (p : Prefix) (g : Guards) (policy : Policy) (means : Means (kinds p) g 
   rows_few rows h = few_rising (λ (i : ℕ). row_place (get_or rows i no_row)) (length rows) (point_count (kinds p))
       (λ i l. rises (get_or rows i no_row) (get_or rows (suc i) no_row) (All-get_or RowOf rows i no_row (omega arith) h.only) (All-get_or RowOf rows (suc i) no_row l h.only)
       (h.order i (suc i) no_row (omega arith) l))
-      (λ i l. let x = All-get_or RowOf rows i no_row l h.only in subst (λ r. row_place r < point_count (kinds p)) (sym x.5) (omega (arith, row_at x.0 x.1 x.2 x.3, place_below x.1 x.2 x.3)))
+      (λ i l. let x = All-get_or RowOf rows i no_row l h.only in subst (λ r. row_place r < point_count (kinds p)) (sym x.5) (omega (arith, row_at x.0 x.1 x.2 x.3, (point_numbering (kinds p)).below x.1 x.2 x.3)))
     where
       no_row : Row
       no_row = record { position = 0; side = On; looked_at = 0; wanted_on = 0 }

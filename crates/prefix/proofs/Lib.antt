@@ -7,3 +7,6 @@ pub mod Before
 pub mod Lines
 pub mod Replies
 pub mod Equal
+pub mod PointCount
+pub mod ReplySums
+pub mod MostPoints

@@ -48,6 +48,7 @@ fn twelve_reports_then_twelve_replies(rt: HostRuntime) -> Result<(), Fail> {
     let prefix = Prefix::new(24, 0x000fff).ok_or("refused")?;
     assert_eq!(rt; prefix.setting_count(), 4096);
     assert_eq!(rt; prefix.point_count(), 12 * 4096);
+    assert_eq!(rt; prefix.point_count(), Prefix::MOST_POINTS);
     Ok(())
 }
 

@@ -4,7 +4,7 @@ ghost use Rattle.prefix.specs.Bits.{mask_value};
 ghost use Rattle.prefix.specs.Limits.{Limits};
 ghost use Rattle.prefix.specs.Kinds.{kind_at, is_report, is_reply, report_count, reports_before};
 ghost use Rattle.prefix.specs.Prefixes.{kinds};
-ghost use Rattle.prefix.specs.Points.{points_at, point_count};
+ghost use Rattle.prefix.specs.Points.{points_at, point_count, PointNumbering};
 ghost use Rattle.prefix.specs.Settings.{Numbering};
 ghost use Rattle.prefix.specs.Policies.{OneLine};
 
@@ -17,6 +17,9 @@ impl Prefix {
     pub const MOST_POSITIONS: usize = 24;
 
     pub const MOST_REPORTS: u32 = 12;
+
+    // No prefix has more points; twelve reports and then twelve replies have as many.
+    pub const MOST_POINTS: usize = 49_152;
 
     // The prefix of `length` positions with the reports of the mask; `None`
     // outside the limits.
@@ -102,9 +105,12 @@ impl Prefix {
     }
 
     // How many points: the sum of 2^u(k) over the replies, u(k) the number of
-    // reports before position k.
+    // reports before position k. Points correspond to the numbers below that.
+    #[tactic(auto, using(crate::proofs::PointCount::point_numbering))]
     pub fn point_count(self) -> usize
-        ensures { result ≡ point_count (kinds self) }
+        ensures value { result ≡ point_count (kinds self) }
+        ensures few { result ≤ Self.MOST_POINTS }
+        ensures numbering { PointNumbering (kinds self) }
     {
         let mut points = 0;
         for position in 1..=self.length {
