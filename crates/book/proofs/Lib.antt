@@ -1,6 +1,12 @@
 pub mod Copies
 pub mod Blocks
+pub mod RecordPlaces
+pub mod PlaceOrder
+pub mod Records
+pub mod RecordGuards
+pub mod RecordKeeping
 pub mod Places
 pub mod Filling
 pub mod Rows
 pub mod Most
+pub mod ListsInOrder

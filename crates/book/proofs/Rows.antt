@@ -18,11 +18,11 @@ use Rattle.prefix.specs.declared.kind.Kind.TheVariants.{Report, Reply}
 use Rattle.prefix.specs.declared.prefix.Prefix.{Prefix}
 use Rattle.prefix.proofs.Masks.{four_cases, and_bit, bit_first, bit_half}
 use Rattle.prefix.proofs.Cuts.{before_decides}
-use Rattle.book.specs.Guards.{answer}
+use Rattle.book.specs.Guards.{answer, same_side}
 use Rattle.book.specs.declared.side.Side.{Side}
 use Rattle.book.specs.declared.side.Side.TheVariants.{On, Off}
 use Rattle.book.specs.Rows.{WellMade, Agrees, SomeRow}
-use Rattle.book.specs.RowGuards.{within, well_made, as_wanted, row_agrees, same_side, row_guards}
+use Rattle.book.specs.RowGuards.{within, well_made, as_wanted, row_agrees, row_guards}
 use Rattle.book.specs.declared.row.Row.{Row}
 
 itself : (b : Bool) → Decides b (b ≡ true)

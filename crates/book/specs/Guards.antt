@@ -10,6 +10,13 @@ use Rattle.prefix.specs.declared.prefix.Prefix.{Prefix}
 use Rattle.book.specs.declared.side.Side.{Side}
 use Rattle.book.specs.declared.side.Side.TheVariants.{On, Off}
 
+-- Whether two sides are the same.
+abbrev pub same_side : Side → Side → Bool
+same_side On On = true
+same_side On Off = false
+same_side Off On = false
+same_side Off Off = true
+
 -- For each side, whether its guard is yes at a point. What they say elsewhere, where there is no point, does not matter.
 abbrev pub Guards : Type 0
 Guards = Side → ℕ → List Bool → Bool

@@ -5,3 +5,6 @@ pub mod CopySteps
 pub mod Rows
 pub mod RowGuards
 pub mod Tables
+pub mod Records
+pub mod ListBooks
+pub mod RecordPlaces

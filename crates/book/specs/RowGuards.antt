@@ -1,15 +1,13 @@
 -- The guards that rows mean, as values. That these come to the same as WellMade, Agrees and SomeRow is promised by
 -- `is_well_made`, `agrees`, `on` and `off`.
-use Rattle.std.specs.Prelude.{ℕ, ◌-◌, ◌%◌, ◌^◌, Bool, true, false, not, ◌&&◌, ◌||◌, List, [], ◌∷◌, ◌==◌, bit_and}
+use Rattle.std.specs.Prelude.{ℕ, ◌-◌, ◌%◌, ◌^◌, Bool, true, not, ◌&&◌, ◌||◌, List, [], ◌∷◌, ◌==◌, bit_and}
 use Rattle.std.specs.Bool.{beq}
 use Rattle.std.specs.List.{list_any}
 use Rattle.prefix.specs.Kinds.{is_reply}
 use Rattle.prefix.specs.Lines.{setting_before}
 use Rattle.prefix.specs.Prefixes.{kinds}
 use Rattle.prefix.specs.declared.prefix.Prefix.{Prefix}
-use Rattle.book.specs.Guards.{Guards}
-use Rattle.book.specs.declared.side.Side.{Side}
-use Rattle.book.specs.declared.side.Side.TheVariants.{On, Off}
+use Rattle.book.specs.Guards.{Guards, same_side}
 use Rattle.book.specs.declared.row.Row.{Row}
 
 -- Each value that is on in the mask a is on in the mask b.
@@ -29,12 +27,6 @@ as_wanted (l ∷ ls) (w ∷ ws) (x ∷ v) = (not l || beq x w) && as_wanted ls w
 -- Whether the row agrees with a setting before its position.
 abbrev pub row_agrees : Prefix → Row → List Bool → Bool
 row_agrees p r v = well_made p r && as_wanted (setting_before p r.position r.looked_at) (setting_before p r.position r.wanted_on) v
-
-abbrev pub same_side : Side → Side → Bool
-same_side On On = true
-same_side On Off = false
-same_side Off On = false
-same_side Off Off = true
 
 -- The guards that rows mean: some row of the side and of the reply's position agrees with the setting.
 abbrev pub row_guards : Prefix → List Row → Guards

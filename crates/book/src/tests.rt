@@ -1,8 +1,10 @@
 // What books answer, and how they keep their guards.
+use crate::record::Record;
 use crate::row::Row;
 use crate::side::Side;
 
 mod copies;
+mod lists;
 mod rows;
 mod tables;
 
@@ -14,6 +16,23 @@ fn row(position: usize, side: Side, looked_at: u32, wanted_on: u32) -> Row {
         wanted_on,
     }
 }
+
+fn entry(position: usize, setting: usize, on: bool, off: bool) -> Record {
+    Record {
+        position,
+        setting,
+        on,
+        off,
+    }
+}
+
+// What stands in memory that no record was put into; it reads as a record all the same.
+const REST: Record = Record {
+    position: 4,
+    setting: 1,
+    on: true,
+    off: true,
+};
 
 // The book of site F's one winning policy, over report, reply, report, reply.
 fn site_f() -> [Row; 4] {

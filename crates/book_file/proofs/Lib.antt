@@ -9,7 +9,6 @@ pub mod Standing
 pub mod Taking
 pub mod SettingMasks
 pub mod ExactRows
-pub mod OneList
 pub mod ListedSteps
 pub mod TableRows
 pub mod Listings

@@ -9,16 +9,16 @@ use Rattle.prefix.specs.Kinds.{reports_before}
 use Rattle.prefix.specs.Points.{Point}
 use Rattle.prefix.specs.Prefixes.{kinds}
 use Rattle.prefix.specs.declared.prefix.Prefix.{Prefix}
-use Rattle.book.specs.Guards.{Guards}
-use Rattle.book.specs.RowGuards.{row_agrees, same_side, well_made, row_guards}
+use Rattle.book.specs.Guards.{Guards, same_side}
+use Rattle.book.specs.RowGuards.{row_agrees, well_made, row_guards}
 use Rattle.book.specs.Rows.{WellMade}
 use Rattle.book.specs.declared.row.Row.{Row}
 use Rattle.book.specs.declared.side.Side.{Side}
 use Rattle.book.specs.declared.side.Side.TheVariants.{On, Off}
+use Rattle.book.proofs.ListsInOrder.{same_list}
 use Rattle.book_file.specs.Listing.{row_of, wanted_number, ListedBefore, Listed, ListedInto, OneListing, ListingWellMade, ListingKeepsGuards}
 use Rattle.book_file.specs.ListSteps.{AllListed}
 use Rattle.book_file.proofs.ExactRows.{row_made, row_made_true, row_agrees_there, row_agrees_alone}
-use Rattle.book_file.proofs.OneList.{same_list}
 use Rattle.book_file.proofs.TableRows.{table_whole}
 
 on_not_off : On ≡ Off → ⊥

@@ -1,8 +1,10 @@
-// Copying rows and tables into a table, and the refusals.
-use super::{row, site_f};
+// Copying rows, tables and lists into tables and lists, and the refusals.
+use super::{REST, entry, row, site_f};
 use crate::book::Book;
 use crate::copy::copy_into;
 use crate::fault::CopyFault;
+use crate::fillable::FillableBook;
+use crate::list_book::ListBook;
 use crate::row_book::RowBook;
 use crate::side::Side;
 use crate::table_book::TableBook;
@@ -31,6 +33,56 @@ fn a_copy_has_the_same_guards(rt: HostRuntime) -> Result<(), Fail> {
     }
     // settings 0 to 3 of position 4: on at 0, 1 and 3, off at 1, 2 and 3
     assert_eq!(rt; words, [0b11, 0, 0b1011, 0b1110, u64::MAX]);
+    Ok(())
+}
+
+// The same rows. A list gets its points by position, and then by setting.
+#[test]
+fn a_copy_into_a_list(rt: HostRuntime) -> Result<(), Fail> {
+    let prefix = Prefix::new(4, 0b0101).ok_or("refused")?;
+    let [first, second, third, fourth] = site_f();
+    let both = row(4, Side::Off, 0b0100, 0b0100);
+    let wrong = row(2, Side::Off, 0b0100, 0b0100);
+    let all = [first, wrong, second, third, fourth, both];
+    let rows = RowBook::new(prefix, &all);
+    let mut memory = [REST; 7];
+    let mut list = ListBook::new(prefix, &mut memory);
+    // gone after the copy
+    list.add(Side::Off, 2, Line::from_mask(0));
+    assert_eq!(rt; copy_into(&rows, &mut list), Ok(()));
+    assert_eq!(rt; list.records().len(), 6);
+    let expected = [
+        entry(2, 0, true, false),
+        entry(2, 1, true, false),
+        entry(4, 0, true, false),
+        entry(4, 1, true, true),
+        entry(4, 2, false, true),
+        entry(4, 3, true, true),
+        REST,
+    ];
+    assert_eq!(rt; memory, expected);
+    Ok(())
+}
+
+// Off at both settings of position 2, and of position 4 on at 0, both at 3; nothing at 1 and 2.
+#[test]
+fn a_copy_of_a_list(rt: HostRuntime) -> Result<(), Fail> {
+    let prefix = Prefix::new(4, 0b0101).ok_or("refused")?;
+    let mut memory = [REST; 6];
+    let mut list = ListBook::new(prefix, &mut memory);
+    for (side, position, mask) in [
+        (Side::Off, 2, 0b0000),
+        (Side::On, 4, 0b0101),
+        (Side::On, 4, 0b0000),
+        (Side::Off, 2, 0b0001),
+        (Side::Off, 4, 0b0101),
+    ] {
+        list.add(side, position, Line::from_mask(mask));
+    }
+    let mut words = [u64::MAX; 5];
+    let mut table = TableBook::new(prefix, &mut words);
+    assert_eq!(rt; copy_into(&list, &mut table), Ok(()));
+    assert_eq!(rt; words, [0, 0b11, 0b1001, 0b1000, u64::MAX]);
     Ok(())
 }
 
@@ -88,6 +140,27 @@ fn refused_copies_alter_nothing(rt: HostRuntime) -> Result<(), Fail> {
         assert_eq!(rt; copy_into(&rows, &mut table), Err(fault));
         assert_eq!(rt; words, [u64::MAX; 8]);
     }
+    Ok(())
+}
+
+// A list without room holds no records; one with room, over another prefix, keeps its own.
+#[test]
+fn refused_copies_into_lists(rt: HostRuntime) -> Result<(), Fail> {
+    let prefix = Prefix::new(4, 0b0101).ok_or("refused")?;
+    let all = site_f();
+    let rows = RowBook::new(prefix, &all);
+    let mut memory = [REST; 5];
+    let mut list = ListBook::new(prefix, &mut memory);
+    assert_eq!(rt; copy_into(&rows, &mut list), Err(CopyFault::NoRoom));
+    assert_eq!(rt; list.records().len(), 0);
+    assert_eq!(rt; memory, [REST; 5]);
+    let other = Prefix::new(3, 0b011).ok_or("refused")?;
+    let mut list = ListBook::new(other, &mut memory);
+    list.add(Side::Off, 3, Line::from_mask(0b010));
+    let kept = entry(3, 1, false, true);
+    assert_eq!(rt; copy_into(&rows, &mut list), Err(CopyFault::PrefixesDiffer));
+    assert_eq!(rt; list.records(), [kept].as_slice());
+    assert_eq!(rt; memory, [kept, REST, REST, REST, REST]);
     Ok(())
 }
 

@@ -1,9 +1,9 @@
 // What is listed of chosen books.
-use super::row;
+use super::{REST, row};
 use crate::list::list_rows;
 use crate::list_fault::ListFault;
-use book::{RowBook, Side};
-use prefix::Prefix;
+use book::{FillableBook, ListBook, Record, RowBook, Side};
+use prefix::{Line, Prefix};
 use std::test::Fail;
 
 // A row that looks at nothing is one row for each setting, and a guard that two rows make
@@ -32,6 +32,41 @@ fn a_book_as_rows_of_points(rt: HostRuntime) -> Result<(), Fail> {
             rest,
         ]
     );
+    Ok(())
+}
+
+// Records in another order than rows are listed in, one with both guards. The rows of a point
+// look at all reports before its position.
+#[test]
+fn a_list_book_as_rows_of_points(rt: HostRuntime) -> Result<(), Fail> {
+    let prefix = Prefix::new(4, 0b0101).ok_or("refused")?;
+    let mut memory = [Record::default(); 6];
+    let mut book = ListBook::new(prefix, &mut memory);
+    for (side, position, mask) in [
+        (Side::Off, 4, 0b0101),
+        (Side::Off, 2, 0b0001),
+        (Side::On, 4, 0b0100),
+        (Side::On, 4, 0b0101),
+        (Side::On, 2, 0b0000),
+    ] {
+        book.add(side, position, Line::from_mask(mask));
+    }
+    let mut table = [REST; 6];
+    assert_eq!(rt; list_rows(&book, &mut table), Ok(5));
+    assert_eq!(rt;
+        table,
+        [
+            row(2, Side::On, 0b0001, 0b0000),
+            row(2, Side::Off, 0b0001, 0b0001),
+            row(4, Side::On, 0b0101, 0b0100),
+            row(4, Side::On, 0b0101, 0b0101),
+            row(4, Side::Off, 0b0101, 0b0101),
+            REST,
+        ]
+    );
+    let mut short = [REST; 4];
+    assert_eq!(rt; list_rows(&book, &mut short), Err(ListFault::TableTooShort));
+    assert_eq!(rt; short, [REST; 4]);
     Ok(())
 }
 
