@@ -7,6 +7,10 @@ pub mod FilledTo
 pub mod LineTo
 pub mod PastPosition
 pub mod WholeSearch
+pub mod MappedLists
+pub mod ListOrder
+pub mod OneListing
+pub mod ListFilling
 pub mod Verdicts
 pub mod AlikeBooks
 pub mod CheckedTo

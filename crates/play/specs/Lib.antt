@@ -3,6 +3,7 @@ pub mod Listing
 pub mod Filling
 pub mod SearchFaults
 pub mod Found
+pub mod ListFilling
 pub mod LineTo
 pub mod Steps
 pub mod Verdicts

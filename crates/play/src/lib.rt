@@ -10,6 +10,7 @@
 pub mod call;
 pub mod check_fault;
 pub mod checking;
+pub mod list_searching;
 pub mod open_fault;
 pub mod opening;
 pub mod playing;
@@ -22,6 +23,7 @@ pub mod verdict;
 pub use call::{Answer, Call};
 pub use check_fault::CheckFault;
 pub use checking::check;
+pub use list_searching::search_list;
 pub use open_fault::OpenFault;
 pub use opening::open;
 pub use playing::{Played, play_calls};

@@ -5,6 +5,8 @@ use std::alloc::Global;
 use std::test::Fail;
 
 mod checks;
+mod list_searches;
+mod lists;
 mod plays;
 mod rounds;
 mod searches;

@@ -7,8 +7,8 @@ use crate::opening::open;
 use crate::round::Round;
 use crate::round_fault::RoundFault;
 use crate::verdict::{Checked, Verdict};
-use book::{Book, RowBook, Side, TableBook};
-use prefix::{Kind, Prefix};
+use book::{Book, FillableBook, ListBook, Record, RowBook, Side, TableBook};
+use prefix::{Kind, Line, Prefix};
 use sheet::{ClauseSheet, Sheet};
 use std::alloc::Global;
 use std::process::Abort;
@@ -135,7 +135,7 @@ fn a_round_of_site_f(rt: HostRuntime) -> Result<(), Fail> {
     Ok(())
 }
 
-// Where the reply comes first. Generic, so that a table can be the book.
+// Where the reply comes first. Generic, so that a table or a list can be the book.
 fn reply_first<F: Sheet, B: Book>(rt: &impl Abort, sheet: &F, book: &B) -> Result<(), OpenFault> {
     let mut round = open(sheet, book)?;
     assert_eq!(rt; round.tell(true), Err(RoundFault::OtherTurn));
@@ -153,9 +153,13 @@ fn reply_first<F: Sheet, B: Book>(rt: &impl Abort, sheet: &F, book: &B) -> Resul
 fn a_round_that_begins_with_a_reply(rt: HostRuntime) -> Result<(), Fail> {
     let prefix = Prefix::new(2, 0b10).ok_or("refused")?;
     let rules = rules(rt.alloc(), &[&[1, 2]])?;
+    let sheet = ClauseSheet::new(prefix, &rules);
     let mut words = [1, 0];
-    let book = TableBook::new(prefix, &mut words);
-    reply_first(&rt, &ClauseSheet::new(prefix, &rules), &book)?;
+    reply_first(&rt, &sheet, &TableBook::new(prefix, &mut words))?;
+    let mut memory = [Record::default()];
+    let mut list = ListBook::new(prefix, &mut memory);
+    list.add(Side::On, 1, Line::from_mask(0));
+    reply_first(&rt, &sheet, &list)?;
     Ok(())
 }
 

@@ -35,17 +35,19 @@ fn site_f_is_searched(rt: HostRuntime) -> Result<(), Fail> {
     Ok(())
 }
 
-// A sheet, and the words that a search makes of garbage.
+// A sheet, the words that a search makes of garbage, and the points in the order in which it
+// meets them: position, the setting's number, and whether the reply is on.
 #[derive(Clone, Copy)]
-struct Searched {
-    length: usize,
-    reports: u32,
-    form: Form,
-    rules: &'static [&'static [i32]],
+pub(super) struct Searched {
+    pub(super) length: usize,
+    pub(super) reports: u32,
+    pub(super) form: Form,
+    pub(super) rules: &'static [&'static [i32]],
     words: &'static [u64],
+    pub(super) points: &'static [(usize, usize, bool)],
 }
 
-const SEARCHED: &[Searched] = &[
+pub(super) const SEARCHED: &[Searched] = &[
     // three policies win; the searched one is at both positions as report 1
     Searched {
         length: 3,
@@ -53,6 +55,7 @@ const SEARCHED: &[Searched] = &[
         form: Form::Cnf,
         rules: &[&[-3, 1], &[-2, 1], &[3, 2, -1]],
         words: &[0b10, 0b01, 0b10, 0b01],
+        points: &[(2, 0, false), (3, 0, false), (2, 1, true), (3, 1, true)],
     },
     // begins and ends with reports: position 2 as report 1, position 3 the other way
     Searched {
@@ -61,6 +64,7 @@ const SEARCHED: &[Searched] = &[
         form: Form::Cnf,
         rules: &[&[-2, 1], &[2, 3, 4], &[-3, -2, -4]],
         words: &[0b10, 0b01, 0b01, 0b10],
+        points: &[(2, 0, false), (3, 0, true), (2, 1, true), (3, 1, false)],
     },
     // replies only: off, on, off
     Searched {
@@ -69,6 +73,7 @@ const SEARCHED: &[Searched] = &[
         form: Form::Cnf,
         rules: &[&[-1, 2], &[-1, -2], &[-2, -3]],
         words: &[0, 1, 1, 0, 0, 1],
+        points: &[(1, 0, false), (2, 0, true), (3, 0, false)],
     },
     // reports only: no points
     Searched {
@@ -77,6 +82,7 @@ const SEARCHED: &[Searched] = &[
         form: Form::Cnf,
         rules: &[],
         words: &[],
+        points: &[],
     },
     // one reply, then twelve reports: on, then off
     Searched {
@@ -85,6 +91,7 @@ const SEARCHED: &[Searched] = &[
         form: Form::Cnf,
         rules: &[&[1, 2]],
         words: &[1, 0],
+        points: &[(1, 0, true)],
     },
     Searched {
         length: 13,
@@ -92,6 +99,7 @@ const SEARCHED: &[Searched] = &[
         form: Form::Cnf,
         rules: &[&[-1, 2]],
         words: &[0, 1],
+        points: &[(1, 0, false)],
     },
     // terms: position 2 on where report 1 is off, position 4 off where both reports are
     Searched {
@@ -100,6 +108,14 @@ const SEARCHED: &[Searched] = &[
         form: Form::Dnf,
         rules: &[&[1, -2], &[-1, 2, 3, 4], &[-1, 2, -3, -4]],
         words: &[0b01, 0b10, 0b1110, 0b0001],
+        points: &[
+            (2, 0, true),
+            (4, 0, false),
+            (4, 1, true),
+            (2, 1, false),
+            (4, 2, true),
+            (4, 3, true),
+        ],
     },
     // a term without literals: every policy wins
     Searched {
@@ -108,6 +124,7 @@ const SEARCHED: &[Searched] = &[
         form: Form::Dnf,
         rules: &[&[]],
         words: &[0b11, 0],
+        points: &[(2, 0, true), (2, 1, true)],
     },
 ];
 
