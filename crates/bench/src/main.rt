@@ -1,11 +1,14 @@
 // Counts the winning policies of one of the fixed large sheets, by name; after the
 // word `text` it writes that sheet's text instead, and without a name it lists the
-// names. `tools/bench` times it.
+// names. After `search` it fills a book, a table or a list, with the sheet's searched policy,
+// and after `check` it checks that book as well. `tools/bench` times it.
 #![tactic(auto)]
 
+mod books;
 mod large;
 
 use anyhow::bail;
+use books::{Keeping, Then, fill};
 use large::Large;
 use sheet_writer::write_sheet;
 use std::env;
@@ -17,10 +20,15 @@ fn main(rt: HostRuntime) -> anyhow::Result<()> {
     let Some(word) = words.next() else {
         return list(&rt);
     };
-    match words.next() {
-        None => measure(&rt, Large::named(word.as_str())?),
-        Some(name) if word.as_str() == "text" => write_text(&rt, Large::named(name.as_str())?),
-        Some(_) => bail!("the arguments are NAME, or text NAME, or none"),
+    let Some(name) = words.next() else {
+        return measure(&rt, Large::named(word.as_str())?);
+    };
+    let sheet = Large::named(name.as_str())?;
+    match (word.as_str(), words.next()) {
+        ("text", None) => write_text(&rt, sheet),
+        ("search", Some(book)) => fill(&rt, sheet, Keeping::named(book.as_str())?, Then::Nothing),
+        ("check", Some(book)) => fill(&rt, sheet, Keeping::named(book.as_str())?, Then::Check),
+        _ => bail!("the arguments are NAME, text NAME, search NAME BOOK, check NAME BOOK, or none"),
     }
 }
 
