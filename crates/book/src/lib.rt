@@ -26,6 +26,3 @@ pub use row::Row;
 pub use row_book::RowBook;
 pub use side::Side;
 pub use table_book::TableBook;
-
-#[cfg(test)]
-mod tests;

@@ -25,6 +25,3 @@ pub use read::read_rows;
 pub use reading::Reading;
 pub use write::write_rows;
 pub use write_fault::WriteFault;
-
-#[cfg(test)]
-mod tests;

@@ -28,6 +28,3 @@ pub use refusal::Refusal;
 pub use settling::{Settlement, settle};
 pub use verdict_words::VerdictWords;
 pub use writing_books::{BookFile, write_book};
-
-#[cfg(test)]
-mod tests;

@@ -32,6 +32,3 @@ pub use round_fault::RoundFault;
 pub use search_fault::SearchFault;
 pub use searching::search;
 pub use verdict::{Checked, Verdict};
-
-#[cfg(test)]
-mod tests;

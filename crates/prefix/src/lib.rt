@@ -11,6 +11,3 @@ pub use kind::Kind;
 pub use line::{Line, first_positions};
 pub use part_line::PartLine;
 pub use prefix::Prefix;
-
-#[cfg(test)]
-mod tests;

@@ -6,6 +6,3 @@ mod refusing;
 
 pub use reading::read_input;
 pub use refusing::{print_refusal, refuse};
-
-#[cfg(test)]
-mod tests;

@@ -23,6 +23,3 @@ pub use rule::Rule;
 pub use rule_sheet::RuleSheet;
 pub use sheet::Sheet;
 pub use term::{TermSheet, Terms};
-
-#[cfg(test)]
-mod tests;

@@ -9,6 +9,3 @@ mod rule;
 pub mod write;
 
 pub use write::write_sheet;
-
-#[cfg(test)]
-mod tests;

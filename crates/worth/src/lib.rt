@@ -24,6 +24,3 @@ pub use scale::Scale;
 pub use stack::WorthStack;
 pub use winning::{can_win, has_winning_policy};
 pub use yes_no::YesNo;
-
-#[cfg(test)]
-mod tests;
