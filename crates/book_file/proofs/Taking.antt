@@ -1,6 +1,7 @@
 -- What the fields of a file come to, one after the other.
-use Rattle.std.proofs.Common.{◌≡◌, ℕ, zero, suc, ◌^◌, ◌<◌, ◌≤◌, Bool, true, false, List, [], ◌∷◌, length, drop, Ok, Err, Result, Decides, MatchResult, sym, ap, ◌∙◌, subst, arith}
+use Rattle.std.proofs.Common.{◌≡◌, ℕ, zero, suc, ◌^◌, ◌<◌, ◌≤◌, Bool, true, false, List, [], ◌∷◌, length, drop, Ok, Err, Result, IsErrAnd, Decides, MatchResult, sym, ap, ◌∙◌, subst, arith}
 use Rattle.std.proofs.lemmas.Bool.{true≢false, false≢true}
+use Rattle.std.proofs.lemmas.Result.{err_from_is_err_and}
 use Rattle.prefix.specs.Bits.{mask_value}
 use Rattle.prefix.specs.Kinds.{is_report, is_reply}
 use Rattle.prefix.specs.Prefixes.{kinds}
@@ -47,12 +48,16 @@ wants_decides p looks r b made at same test = (
   }),
 )
 
+-- A call that ends by a `?` has the fault of the call before it.
+pub fault_is : {A : Type 0} (r : Result A BookFault) (f : BookFault) → IsErrAnd r (λ g. g ≡ f) → r ≡ Err f
+fault_is r f h = let err = err_from_is_err_and r h in err.1 ∙ ap Err err.2
+
 -- What is wrong after some numbers of a row.
-module _ (p : Prefix) (i : ℕ) (file : List ℕ) (at : ℕ) (r : Result Row BookFault) (f : BookFault) (e : r ≡ Err f) where
+module _ (p : Prefix) (i : ℕ) (file : List ℕ) (at : ℕ) (r : Result Row BookFault) (f : BookFault) (e : IsErrAnd r (λ g. g ≡ f)) where
   pub row_fails : (ks : List ℕ) (to end : ℕ) (other : List ℕ) → other ≡ file → length ks ≤ 3 → EachAfter (FollowsInRow p.length p.reports) ks → Stand file ks at to
       → WrongThere (next_in_rows 1 i ks) (AllowedInRows p.length p.reports ks) to (drop to other) f → RowTaken p i file at r end
   row_fails ks to end other same part begun stand wrong =
-      subst (λ (x : Result Row BookFault). RowTaken p i file at x end) (sym e) (record {
+      subst (λ (x : Result Row BookFault). RowTaken p i file at x end) (sym (fault_is r f e)) (record {
         numbers = ks;
         to = to;
         part = part;
@@ -62,9 +67,9 @@ module _ (p : Prefix) (i : ℕ) (file : List ℕ) (at : ℕ) (r : Result Row Boo
       })
 
 -- The same before the rows.
-module _ (file : List ℕ) (r : Result Reading BookFault) (f : BookFault) (e : r ≡ Err f) where
+module _ (file : List ℕ) (r : Result Reading BookFault) (f : BookFault) (e : IsErrAnd r (λ g. g ≡ f)) where
   pub header_fails : (ks : List ℕ) (to end : ℕ) (other : List ℕ) → other ≡ file → Begun ks → Stand file ks 0 to
       → WrongThere (next ks) (Allowed ks) to (drop to other) f → HeaderTaken file r end
   header_fails ks to end other same begun stand wrong =
-      subst (λ (x : Result Reading BookFault). HeaderTaken file x end) (sym e)
+      subst (λ (x : Result Reading BookFault). HeaderTaken file x end) (sym (fault_is r f e))
       (fault_after file ks to f begun stand (subst (λ (l : List ℕ). WrongThere (next ks) (Allowed ks) to (drop to l) f) same wrong))

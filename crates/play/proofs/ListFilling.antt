@@ -1,11 +1,10 @@
 -- The records that are in a list book after a search.
-use Rattle.std.proofs.Common.{◌≡◌, ℕ, zero, suc, ◌-◌, ◌*◌, ◌^◌, ◌<◌, Bool, true, false, not, inl, inr, List, [], ◌∷◌, ◌++◌, length, get_or, map, replicate, append_assoc, sym, refl, ap, ◌∙◌, subst, ⊎_elim, arith}
+use Rattle.std.proofs.Common.{◌≡◌, ℕ, ◌-◌, ◌*◌, ◌^◌, ◌<◌, Bool, true, false, not, inl, inr, List, [], ◌∷◌, ◌++◌, length, get_or, map, sym, refl, ap, ◌∙◌, subst, ⊎_elim, arith}
 use Rattle.std.specs.List.{All, AllPairs, list_any}
 use Rattle.std.proofs.lemmas.Bool.{cond-false}
 use Rattle.std.proofs.lemmas.Bool.Decides.{nat_tests}
-use Rattle.std.proofs.Math.Nat.{mul_assoc, pow-succ'}
 use Rattle.std.proofs.lemmas.Fn.{chained_keeps}
-use Rattle.std.proofs.lemmas.List.{append-nil, map-append}
+use Rattle.std.proofs.lemmas.List.{map-append}
 use Rattle.std.proofs.lemmas.List.Elements.{All-map, All-weaker}
 use Rattle.std.proofs.lemmas.List.Folds.{list_any_none}
 use Rattle.prefix.specs.Kinds.{report_count, reports_before}
@@ -14,29 +13,17 @@ use Rattle.prefix.specs.Policies.{Policy}
 use Rattle.prefix.specs.Settings.{number}
 use Rattle.prefix.specs.declared.kind.Kind.{Kind}
 use Rattle.prefix.proofs.PointCount.{few_points, setting_inside, many_points}
-use Rattle.prefix.proofs.Settings.{number_push}
 use Rattle.book.specs.Records.{is_of, first_record, with_guard, list_guards, Apart}
 use Rattle.book.specs.declared.record.Record.{Record}
 use Rattle.book.specs.declared.side.Side.{Side}
-use Rattle.play.specs.Filling.{Guard, side_of, guard_of, Run, ClearsAll, AddsOne, first_number, MetBefore}
+use Rattle.play.specs.Filling.{Guard, side_of, guard_of, Run, ClearsAll, AddsOne, MetBefore}
 use Rattle.play.specs.Found.{Filled, Found}
 use Rattle.play.specs.ListFilling.{record_of, first_with, RecordBefore, RecordOrder, ListFound, OneListFound}
 use Rattle.play.specs.Listing.{Lists}
 use Rattle.play.proofs.Listing.{lists_alike}
+use Rattle.play.proofs.Numbers.{first_is}
 use Rattle.play.proofs.OneListing.{lists_one}
 use Rattle.play.proofs.MappedLists.{lists_map, pairs_front, pairs_last}
-
--- The number of a setting that is off at all reports from some on.
-number_then_off : (n : ℕ) (v : List Bool) → number (v ++ replicate n false) ≡ number v * 2 ^ n
-number_then_off zero v = ap number (append-nil v) ∙ omega arith
-number_then_off (suc n) v =
-    let twice : number (v ++ false ∷ []) ≡ number v * 2 = omega (arith, number_push v false) in
-    ap number (sym (append_assoc v (false ∷ []) (replicate n false))) ∙ number_then_off n (v ++ false ∷ [])
-    ∙ ap (λ (m : ℕ). m * 2 ^ n) twice ∙ mul_assoc (number v) 2 (2 ^ n) ∙ ap (λ (m : ℕ). number v * m) (sym (pow-succ' 2 n))
-
--- So too of the first setting that has a point.
-first_is : (ks : List Kind) (k : ℕ) (v : List Bool) → first_number ks k v ≡ number v * 2 ^ (report_count ks - reports_before ks k)
-first_is ks k v = number_then_off (report_count ks - reports_before ks k) v
 
 -- The record that is appended for a guard at a point that has none.
 abbrev written : Guard → Record

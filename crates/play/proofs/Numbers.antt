@@ -18,6 +18,7 @@ use Rattle.prefix.proofs.Before.{setting_length}
 use Rattle.prefix.proofs.Masks.{length-bits}
 use Rattle.prefix.proofs.Positions.{length-kinds, before_le}
 use Rattle.prefix.proofs.Settings.{number-below, number-apart}
+use Rattle.book.proofs.PlaceOrder.{later_is}
 use Rattle.play.specs.Filling.{first_setting, first_number, FirstHas}
 
 number_append : (v w : List Bool) → number (v ++ w) ≡ number v * 2 ^ length w + number w
@@ -75,7 +76,7 @@ module _ (p : Prefix) (k m : ℕ) (within : k ≤ p.length + 1) where
   number_whole : number whole ≡ number (setting_before p k m) * 2 ^ rest + number later
   number_whole = ap number whole_is ∙ number_append (setting_before p k m) later ∙ ap (λ (r : ℕ). number (setting_before p k m) * 2 ^ r + number later) length-later
 
-first_is : (ks : List Kind) (k : ℕ) (v : List Bool) → first_number ks k v ≡ number v * 2 ^ (report_count ks - reports_before ks k)
+pub first_is : (ks : List Kind) (k : ℕ) (v : List Bool) → first_number ks k v ≡ number v * 2 ^ (report_count ks - reports_before ks k)
 first_is ks k v =
     let r : ℕ = report_count ks - reports_before ks k in
     number_append v (replicate r false) ∙ ap (λ (i : ℕ). number v * 2 ^ i + number (replicate r false)) (length-replicate {A = Bool} r false) ∙ omega (arith, number_off r)
@@ -105,16 +106,6 @@ first_has ks = record {
   least = λ k v s o. first_least ks k v o s;
 }
 
--- How many settings the reports from a position on have.
-later_settings : (ks : List Kind) (k : ℕ) → 2 ^ report_count ks / 2 ^ reports_before ks k ≡ 2 ^ (report_count ks - reports_before ks k)
-later_settings ks k =
-    let u : ℕ = reports_before ks k in
-    let r : report_count ks ≡ (report_count ks - u) + u = omega (arith, before_le ks k) in
-    ap (λ (i : ℕ). 2 ^ i / 2 ^ u) r ∙ ap (λ (i : ℕ). i / 2 ^ u) (pow-add 2 (report_count ks - u) u) ∙ mul-div_left (2 ^ (report_count ks - u)) (pow_pos u)
-
-pub some_later : (ks : List Kind) (k : ℕ) → 0 < 2 ^ report_count ks / 2 ^ reports_before ks k
-some_later ks k = omega (arith, later_settings ks k, pow_pos (report_count ks - reports_before ks k))
-
 -- Setting s has the mask m, and at position k the point of that mask.
 module _ (p : Prefix) (k s m : ℕ) (within : k ≤ p.length) (setting : SettingMask p (p.length + 1) s m) where
   abbrev here : List Bool
@@ -139,7 +130,7 @@ module _ (p : Prefix) (k s m : ℕ) (within : k ≤ p.length) (setting : Setting
   -- It is the first where its number is a multiple of how many settings the later reports have.
   pub first_decides : Decides (nat_eq (s % (2 ^ report_count (kinds p) / 2 ^ reports_before (kinds p) k)) 0) (first_number (kinds p) k here ≡ s)
   first_decides =
-      let cut : s % (2 ^ report_count (kinds p) / 2 ^ reports_before (kinds p) k) ≡ number (later p k m inside) = ap (λ (i : ℕ). s % i) (later_settings (kinds p) k) ∙ rest_is in
+      let cut : s % (2 ^ report_count (kinds p) / 2 ^ reports_before (kinds p) k) ≡ number (later p k m inside) = ap (λ (i : ℕ). s % i) (later_is (kinds p) k) ∙ rest_is in
       (λ e. omega (arith, first_is (kinds p) k here, number_is, cut, eqb-true _ _ e), λ e. eq-eqb _ _ (omega (arith, first_is (kinds p) k here, number_is, cut)))
 
   -- No other point of the position is met first in it.

@@ -1,6 +1,6 @@
 -- What is wanted after a word that is right.
 use Rattle.std.proofs.lemmas.Bool.Decides.{nat_tests}
-use Rattle.std.proofs.Common.{All, ◌≡◌, ℕ, zero, suc, ◌+◌, ◌-◌, ◌<◌, ◌≤◌, true, false, List, [], ◌∷◌, ◌++◌, map, length, Some, None, Ok, Err, codes, decimal, Option, Result, sym, refl, ap, ◌∙◌, subst, inl, inr, ⊎_elim, arith}
+use Rattle.std.proofs.Common.{All, ◌≡◌, ℕ, suc, ◌+◌, ◌-◌, ◌<◌, ◌≤◌, true, false, List, [], ◌∷◌, ◌++◌, map, length, Some, None, Ok, Err, codes, decimal, Option, Result, sym, refl, ap, ◌∙◌, subst, inl, inr, ⊎_elim, arith}
 use Rattle.std.proofs.lemmas.Bool.{false≢true}
 use Rattle.std.proofs.lemmas.List.{append_assoc, append-nil, map_push, length_push}
 use Rattle.std.proofs.lemmas.List.Elements.{All-nil, All-push}
@@ -29,7 +29,7 @@ use Rattle.sheet_text.specs.declared.state.Section.TheVariants.{Opening, Quantif
 use Rattle.sheet_text.specs.declared.taken.Taken.{Taken}
 use Rattle.sheet_text.specs.declared.taken.Taken.TheVariants as taken
 use Rattle.sheet_text.specs.declared.word.Number.{Number}
-use Rattle.sheet_text.proofs.Awaiting.{section_of, some_in, Late, Over, placed_rules, Reflects}
+use Rattle.sheet_text.proofs.Awaiting.{section_of, not_opening_then, some_in, Late, Over, placed_rules, Reflects}
 use Rattle.sheet_text.proofs.Beginnings.{begun_header, begun_variables, begun_rule}
 use Rattle.sheet_text.proofs.Given.{in_range}
 use Rattle.sheet_text.proofs.HeaderReads.{waiting, headed, comment_word_lem, form_word_back, length_back, rules_back, end_refuses}
@@ -222,7 +222,7 @@ module _ (lines : List (List (List ℕ))) (words : List (List ℕ)) (h : Header)
   after_first m rs done l at section before begun is e =
       ⊎_elim
       (λ (n : (n : Number) × (numeral_of w ≡ Some n) × (sort_word w p ≡ number n p)).
-      let late = late_then (length rs) section in
+      let late = not_opening_then (length rs) section in
       let o = rule_started m done n.0 p u at late (sym (ap (λ t. given (progress m [] done) (step m t)) n.2) ∙ e) in
       let rule : Late (ruling m) h qs (length rs) = record { sound = sound_rule m n.0 p l.sound at late o.0 o.1; knows = knows_rule m qs l.knows; form = l.form; length = l.length; rules = l.rules; read = l.read } in
       after_number (ruling m) rs [] [] done n.0 rule refl begun (record { known = All-nil (λ (l : Signed). Ranges h.length l.variable); distinct = tt }) is refl before n.1 o.2)
@@ -230,10 +230,6 @@ module _ (lines : List (List (List ℕ))) (words : List (List ℕ)) (h : Header)
       after_letters rs section before begun l (sym (ap (λ t. given (progress m [] done) (step m t)) n.1 ∙ ap (λ o. given (progress m [] done) o) (step_in_lem m mode.LineStart (letters w p) at)) ∙ e))
       (sort_cases w p)
     where
-      late_then : (n : ℕ) → m.section ≡ section_of n → m.section ≡ Opening → ⊥
-      late_then zero s o = cc (s, o)
-      late_then (suc n) s o = cc (s, o)
-
       in_section_of : (s : Section) → m.section ≡ s → given (progress m [] done) (start_word m (letters w p)) ≡ Ok u → given (progress m [] done) (opened (open_in s m (first_word w) p) (letters w p)) ≡ Ok u
       in_section_of s is q = sym (ap (λ (s : Section). given (progress m [] done) (opened (open_in s m (first_word w) p) (letters w p))) is) ∙ q
 

@@ -26,7 +26,7 @@ use Rattle.sheet_text.specs.declared.state.Section.TheVariants.{Opening}
 use Rattle.sheet_text.specs.declared.first.First.{First}
 use Rattle.sheet_text.specs.declared.first.First.TheVariants as first
 use Rattle.sheet_text.specs.declared.word.Number.{Number}
-use Rattle.sheet_text.proofs.Awaiting.{section_of, some_in, Late, Reflects}
+use Rattle.sheet_text.proofs.Awaiting.{section_of, not_opening_then, some_in, Late, Reflects}
 use Rattle.sheet_text.proofs.Given.{in_range, some_place}
 use Rattle.sheet_text.proofs.HeaderReads.{waiting, headed}
 use Rattle.sheet_text.proofs.LineReads.{sound_rule, knows_rule}
@@ -174,13 +174,6 @@ agree_first s m h qs (suc n) first.Other w rule = refl
 
 -- A reader before its first rule, or a further one.
 module _ (m : State) (h : Header) (qs : List Variable) (rs : List (List Signed)) (l : Late m h qs (length rs)) (at : m.mode ≡ mode.LineStart) (late : m.section ≡ section_of (length rs)) where
-  not_opening_then : m.section ≡ Opening → ⊥
-  not_opening_then e = by (length rs) (sym late ∙ e)
-    where
-      by : (n : ℕ) → section_of n ≡ Opening → ⊥
-      by zero e = cc e
-      by (suc n) e = cc e
-
   -- A rule's first word.
   agree_rule : (done : List (List Literal)) (w : Token) → wrong_rule h qs (length rs) w ≡ forget (given (progress m [] done) (opened (open_rule m (place_of w)) w))
   agree_rule done w =
@@ -189,7 +182,7 @@ module _ (m : State) (h : Header) (qs : List Variable) (rs : List (List Signed))
       (λ (n : m.named ≡ m.length). ⊎_elim
       (λ (more : m.read < m.rules).
       let opens : open_rule m (place_of w) ≡ Ok (ruling m) = cond-true _ _ _ (eq-eqb m.named m.length n) ∙ cond-true _ _ _ (lt-ltb m.read m.rules more) in
-      let sound = sound_rule m (record { value = 0; negative = false }) 0 l.sound at not_opening_then n more in
+      let sound = sound_rule m (record { value = 0; negative = false }) 0 l.sound at (not_opening_then (length rs) late) n more in
       cond-true _ _ _ (eq-eqb (length qs) h.length (sym l.knows.count ∙ n ∙ l.length))
       ∙ cond-true _ _ _ (lt-ltb (length rs) h.rules (omega (arith, l.read, l.rules)))
       ∙ agree_word (ruling m) qs [] [] done h.length w sound (refl, n, more) (knows_rule m qs l.knows) l.length refl

@@ -10,7 +10,7 @@ use Rattle.sheet_text.specs.Beginnings.{Awaited, opening, comment, form, variabl
 use Rattle.sheet_text.specs.declared.state.Mode.TheVariants as mode
 use Rattle.sheet_text.specs.declared.state.State.{State}
 use Rattle.sheet_text.specs.declared.state.Section.{Section}
-use Rattle.sheet_text.specs.declared.state.Section.TheVariants.{Quantifiers, Rules}
+use Rattle.sheet_text.specs.declared.state.Section.TheVariants.{Opening, Quantifiers, Rules}
 use Rattle.sheet_text.proofs.HeaderReads.{waiting}
 use Rattle.sheet_text.proofs.Naming.{Knows}
 
@@ -18,6 +18,10 @@ use Rattle.sheet_text.proofs.Naming.{Knows}
 abbrev pub section_of : ℕ → Section
 section_of zero = Quantifiers
 section_of (suc n) = Rules
+
+pub not_opening_then : {s : Section} → (n : ℕ) → s ≡ section_of n → s ≡ Opening → ⊥
+not_opening_then zero is e = cc (is, e)
+not_opening_then (suc n) is e = cc (is, e)
 
 -- Whether a line has named a variable.
 abbrev pub some_in : List ℕ → Bool

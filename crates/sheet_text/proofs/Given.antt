@@ -13,7 +13,6 @@ use Rattle.sheet_text.specs.declared.state.Mode.{Mode}
 use Rattle.sheet_text.specs.declared.state.Mode.TheVariants as mode
 use Rattle.sheet_text.specs.declared.state.State.{State}
 use Rattle.sheet_text.specs.declared.state.Section.{Section}
-use Rattle.sheet_text.specs.declared.state.Section.TheVariants.{Opening, Quantifiers, Rules}
 use Rattle.sheet_text.specs.declared.taken.Taken.{Taken}
 use Rattle.sheet_text.specs.declared.taken.Taken.TheVariants as taken
 use Rattle.sheet_text.specs.declared.first.First.{First}
@@ -40,24 +39,7 @@ rule_counts : (m : State) (p : ℕ) → Counts m.read (open_rule m p)
 rule_counts m p = grind (arith, nat_tests)
 
 in_counts : (m : State) (s : Section) (f : First) (p : ℕ) → Counts m.read (open_in s m f p)
-in_counts m Opening first.Comment p = refl
-in_counts m Opening first.Header p = refl
-in_counts m Opening (first.Quantifier k) p = tt
-in_counts m Opening first.Number p = tt
-in_counts m Opening first.Letters p = tt
-in_counts m Opening first.Other p = tt
-in_counts m Quantifiers first.Comment p = tt
-in_counts m Quantifiers first.Header p = tt
-in_counts m Quantifiers (first.Quantifier k) p = refl
-in_counts m Quantifiers first.Number p = rule_counts m p
-in_counts m Quantifiers first.Letters p = tt
-in_counts m Quantifiers first.Other p = tt
-in_counts m Rules first.Comment p = tt
-in_counts m Rules first.Header p = tt
-in_counts m Rules (first.Quantifier k) p = tt
-in_counts m Rules first.Number p = rule_counts m p
-in_counts m Rules first.Letters p = tt
-in_counts m Rules first.Other p = tt
+in_counts m s f p = grind (arith, nat_tests)
 
 -- What has a position is there.
 pub some_place : (o : Option Variable) → 1 ≤ position_of o → IsSome o

@@ -16,10 +16,10 @@ use Rattle.sheet_text.specs.Words.{letters, number, sort_word}
 use Rattle.sheet_text.specs.Cuts.{Tokens, next}
 use Rattle.sheet_text.specs.declared.state.Mode.TheVariants as mode
 use Rattle.sheet_text.specs.declared.state.State.{State}
-use Rattle.sheet_text.specs.declared.state.Section.TheVariants.{Opening, Quantifiers}
+use Rattle.sheet_text.specs.declared.state.Section.TheVariants.{Quantifiers}
 use Rattle.sheet_text.specs.declared.taken.Taken.TheVariants as taken
 use Rattle.sheet_text.specs.declared.word.Number.{Number}
-use Rattle.sheet_text.proofs.Awaiting.{section_of, some_in, Late, Over, placed_rules, Reflects}
+use Rattle.sheet_text.proofs.Awaiting.{section_of, not_opening_then, some_in, Late, Over, placed_rules, Reflects}
 use Rattle.sheet_text.proofs.Beginnings.{all_front, all_known, all_distinct, HeaderLast, VariablesLast, RuleLast, last_line}
 use Rattle.sheet_text.proofs.HeaderReads.{waiting, headed, comment_words, comment_line, form_forth, positions_forth, count_forth}
 use Rattle.sheet_text.proofs.Lining.{Line, LinedTo, WordsTo, words_split}
@@ -188,18 +188,11 @@ module _ (ts mid rest : Tokens) where
       room : m.read < m.rules
       room = omega (arith, l.read, l.rules)
 
-      late_section : m.section ≡ Opening → ⊥
-      late_section o = by (length rs) (sym section ∙ o)
-        where
-          by : (n : ℕ) → section_of n ≡ Opening → ⊥
-          by zero e = cc e
-          by (suc n) e = cc e
-
       sound_ruling : Sound (ruling m)
-      sound_ruling = sound_rule m (plain 0) 0 l.sound at late_section known_all room
+      sound_ruling = sound_rule m (plain 0) 0 l.sound at (not_opening_then (length rs) section) known_all room
 
       opened_rule : (n : Number) (p : ℕ) (after : Tokens) → mid ≡ next (number n p) after → run begin ts ≡ run (progress (ruling m) [] done) mid
-      opened_rule n p after is = before ∙ open_forth m n p at late_section [] done mid after is known_all room
+      opened_rule n p after is = before ∙ open_forth m n p at (not_opening_then (length rs) section) [] done mid after is known_all room
 
       literals_from : (after : Tokens) → WordsTo (map signed_word ss) mid after → run (progress (ruling m) [] done) mid ≡ run (progress (ruling m) (map (placed qs) ss) done) after
       literals_from after w = literals_on qs done ss (ruling m) [] mid after w refl (knows_rule m qs l.knows) l.sound.short (subst (λ (n : ℕ). All (Known n) ss) (sym l.length) good.known) good.distinct

@@ -1,6 +1,6 @@
 -- A text is read exactly when the grammar has it say a sheet, and then as that sheet.
 use Rattle.std.proofs.lemmas.Bool.Decides.{nat_tests}
-use Rattle.std.proofs.Common.{All, ◌≡◌, ℕ, zero, suc, ◌^◌, ◌<◌, ◌≤◌, ◌↔◌, List, [], ◌∷◌, map, length, Ok, Err, Result, sym, refl, ap, ◌∙◌, subst, arith}
+use Rattle.std.proofs.Common.{All, ◌≡◌, ℕ, ◌^◌, ◌<◌, ◌≤◌, ◌↔◌, List, [], ◌∷◌, map, length, Ok, Err, Result, sym, refl, ap, ◌∙◌, subst, arith}
 use lib.Count.{ones}
 use Rattle.std.proofs.lemmas.List.{length-map}
 use Rattle.prefix.proofs.Positions.{length-kinds}
@@ -18,7 +18,7 @@ use Rattle.faults.specs.declared.sheet.SheetFault.TheVariants as fault
 use Rattle.sheet_text.specs.declared.state.State.{State}
 use Rattle.sheet_text.specs.declared.state.Section.{Section}
 use Rattle.sheet_text.specs.declared.state.Section.TheVariants.{Opening, Quantifiers, Rules}
-use Rattle.sheet_text.proofs.Awaiting.{section_of, Late, placed_rules, Reflects}
+use Rattle.sheet_text.proofs.Awaiting.{section_of, not_opening_then, Late, placed_rules, Reflects}
 use Rattle.sheet_text.proofs.Coming.{Came, text_comes}
 use Rattle.sheet_text.proofs.LineReads.{nil_cons}
 use Rattle.sheet_text.proofs.Lining.{lined_to, lined_text}
@@ -127,17 +127,13 @@ says-read t s h =
     let named : m.named ≡ m.length = l.knows.count ∙ long ∙ sym l.length in
     let read : m.read ≡ m.rules = l.read ∙ many ∙ sym l.rules in (
       z,
-      ap (ending (length t)) (p.3 ∙ run_over z stop refl) ∙ ap (whole z) (ap (λ x. finished (length t) x m) p.4.1 ∙ finished_forth (length t) (section_of (length h.rules)) m (late_section (length h.rules)) named read),
+      ap (ending (length t)) (p.3 ∙ run_over z stop refl) ∙ ap (whole z) (ap (λ x. finished (length t) x m) p.4.1 ∙ finished_forth (length t) (section_of (length h.rules)) m (not_opening_then (length h.rules) refl) named read),
       λ i. record {
         form = l.form i;
         kinds = (ap (λ (n : ℕ). kinds_of n m.reports) (l.length ∙ sym long) ∙ l.knows.kinds ∙ sym h.kinds) i;
         rules = (p.4.4 ∙ sym h.literals) i;
       },
     )
-  where
-    late_section : (n : ℕ) → section_of n ≡ Opening → ⊥
-    late_section zero e = cc e
-    late_section (suc n) e = cc e
 
 from_back : (o : Result Progress SheetFault) (s : Sheet) → sheet_from o ≡ Ok s → (z : Progress) × (o ≡ Ok z) × (sheet_of z ≡ s)
 from_back (Ok z) s e = grind (arith, nat_tests)

@@ -149,7 +149,7 @@ fn reply_value<'a, F: Sheet, B: FillableBook>(
 
 // Whether the setting of a number is the first that has its point at a position: all later
 // reports are off.
-#[tactic(auto, using(crate::proofs::Numbers::some_later, crate::proofs::Numbers::first_decides))]
+#[tactic(auto, using(book::proofs::RecordPlaces::some_later, crate::proofs::Numbers::first_decides))]
 fn is_first(prefix: Prefix, position: usize, number: usize) -> bool
     requires within { position ≤ prefix.length }
     ensures { (m : ℕ) → SettingMask prefix (prefix.length + 1) number m

@@ -5,6 +5,7 @@ use Rattle.prefix.specs.Kinds.{is_reply, reports_before}
 use Rattle.prefix.specs.Lines.{setting_before}
 use Rattle.prefix.specs.Points.{point_count}
 use Rattle.prefix.specs.Prefixes.{kinds}
+use Rattle.prefix.specs.Settings.{number}
 use Rattle.prefix.proofs.Replies.{point_of}
 use Rattle.book.specs.Guards.{Added, can_add}
 use Rattle.book.specs.ListBooks.{records_of}
@@ -35,6 +36,14 @@ append-requires-clause-room c =
 none : (c : goal.After-turn) → Record
 none c = first_record c.args.side c.args.position c.setting_number-setting.result
 
+-- Where the list has that guard, so has the book.
+added_to_list : (b : ListBook) (side : Side) (k m : ℕ) (after : List Record) → is_reply (kinds b.prefix) k ≡ true → after ≡ with_guard (records_of b) side k (number (setting_before b.prefix k m))
+    → Added (kinds b.prefix) (list_guards (records_of b)) side k (setting_before b.prefix k m) (list_guards after)
+added_to_list b side k m after reply same =
+    let v = setting_before b.prefix k m in
+    subst (λ (rs : List Record). Added (kinds b.prefix) (list_guards (records_of b)) side k v (list_guards rs)) (sym same)
+    (guard_added (kinds b.prefix) (records_of b) side k v (point_of b.prefix k m reply))
+
 pub returns-in-Some-clause-length : goal.returns-in-Some-clause-length
 returns-in-Some-clause-length c = ap length (c.turn.ensures.memory (none c)) ∙ length-set c.args.self.now.records.now c.in-Some.place _
 
@@ -47,11 +56,7 @@ returns-in-Some-clause-list c e =
     ∙ ap (with_guard (records_of b) c.args.side c.args.position) c.setting_number-setting.ensures.value
 
 pub returns-in-Some-clause-guards : goal.returns-in-Some-clause-guards
-returns-in-Some-clause-guards c e =
-    let b = c.args.self.now in
-    let v = setting_before b.prefix c.args.position c.args.line.mask in
-    subst (λ (rs : List Record). Added (kinds b.prefix) (list_guards (records_of b)) c.args.side c.args.position v (list_guards rs)) (sym (returns-in-Some-clause-list c e))
-    (guard_added (kinds b.prefix) (records_of b) c.args.side c.args.position v (point_of b.prefix c.args.position c.args.line.mask (and_parts _ _ e).1))
+returns-in-Some-clause-guards c e = added_to_list c.args.self.now c.args.side c.args.position c.args.line.mask _ (and_parts _ _ e).1 (returns-in-Some-clause-list c e)
 
 pub returns-in-Some-clause-past : goal.returns-in-Some-clause-past
 returns-in-Some-clause-past c =
@@ -75,11 +80,7 @@ returns-in-None-clause-list c e =
     ∙ ap (with_guard (records_of b) c.args.side c.args.position) c.setting_number-setting.ensures.value
 
 pub returns-in-None-clause-guards : goal.returns-in-None-clause-guards
-returns-in-None-clause-guards c e =
-    let b = c.args.self.now in
-    let v = setting_before b.prefix c.args.position c.args.line.mask in
-    subst (λ (rs : List Record). Added (kinds b.prefix) (list_guards (records_of b)) c.args.side c.args.position v (list_guards rs)) (sym (returns-in-None-clause-list c e))
-    (guard_added (kinds b.prefix) (records_of b) c.args.side c.args.position v (point_of b.prefix c.args.position c.args.line.mask (and_parts _ _ e).1))
+returns-in-None-clause-guards c e = added_to_list c.args.self.now c.args.side c.args.position c.args.line.mask _ (and_parts _ _ e).1 (returns-in-None-clause-list c e)
 
 pub returns-in-None-clause-beyond : goal.returns-in-None-clause-beyond
 returns-in-None-clause-beyond c =
