@@ -35,7 +35,7 @@ module _ (ks : List Kind) (p : Policy) where
   Earlier k s j w = Point ks j w × (comes_before k s j (number w) ≡ true)
 
   -- One point more.
-  choice_listed : (k s : ℕ) (v : List Bool) (cs : List Choice) → Point ks k v → number v ≡ s → ListsTo ks p k s cs → ListsTo ks p k (s + 1) (cs ++ choice_of p k v ∷ [])
+  pub choice_listed : (k s : ℕ) (v : List Bool) (cs : List Choice) → Point ks k v → number v ≡ s → ListsTo ks p k s cs → ListsTo ks p k (s + 1) (cs ++ choice_of p k v ∷ [])
   choice_listed k s v cs o n h = lists_push (Earlier k s) (choice_of p) ListedBefore (Earlier k (s + 1)) k v cs before to (o, before_less k (s + 1) k (number v) (inr (refl, omega arith))) from h
     where
       before : (j : ℕ) (w : List Bool) → Earlier k s j w → ListedBefore (choice_of p j w) (choice_of p k v)

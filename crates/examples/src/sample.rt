@@ -1,4 +1,4 @@
-// The sheets that the program counts and plays on, as values.
+// The sheets that the program counts without proof, and site F, on which it plays, as values.
 use anyhow::Context;
 use prefix::Prefix;
 use sheet::{Form, Literal, Rule};
@@ -25,14 +25,6 @@ impl Sample {
     };
 
     pub(crate) const ALL: &'static [Sample] = &[
-        Sample::SITE_F,
-        Sample {
-            name: "a report, then two replies",
-            form: Form::Cnf,
-            length: 3,
-            reports: 0b001,
-            rules: &[&[-3, 1], &[-2, 1], &[3, 2, -1]],
-        },
         Sample {
             name: "one reply without rules",
             form: Form::Cnf,
@@ -53,13 +45,6 @@ impl Sample {
             length: 1,
             reports: 0,
             rules: &[],
-        },
-        Sample {
-            name: "an empty term",
-            form: Form::Dnf,
-            length: 1,
-            reports: 0,
-            rules: &[&[]],
         },
         Sample {
             name: "19 replies without rules",
