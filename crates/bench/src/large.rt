@@ -7,8 +7,7 @@ use sheet::{Form, Literal, Rule};
 use std::alloc::{AllocError, Global};
 use std::iter;
 
-// A sheet by its parts, with how many literals each of its rules has. `examples` has a
-// table alike; no library stands between the two programs.
+// A sheet by its parts, with how many literals each of its rules has.
 pub(crate) struct Large {
     pub(crate) name: &'static str,
     pub(crate) form: Form,

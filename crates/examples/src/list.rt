@@ -1,5 +1,5 @@
 // The list of site F's points that a search makes.
-use crate::sample::Sample;
+use crate::site_f::SiteF;
 use book::{ListBook, Record};
 use play::search_list;
 use sheet::ClauseSheet;
@@ -9,21 +9,19 @@ use worth::WorthStack;
 // setting before it, and the reply.
 pub(crate) fn show_list(rt: &HostRuntime) -> anyhow::Result<()> {
     let heap = rt.alloc();
-    let sample = &Sample::SITE_F;
-    let prefix = sample.prefix()?;
-    let rules = sample.rules(heap)?;
+    let SiteF { prefix, rules } = SiteF::read(heap)?;
     let sheet = ClauseSheet::new(prefix, &rules);
     let mut memory = vec![in heap; Record::default(); prefix.point_count()]?;
     let mut cells = vec![in heap; false; prefix.len()]?;
     let mut book = ListBook::new(prefix, &mut memory);
     search_list(&mut WorthStack::new(&mut cells), &sheet, &mut book)?;
     for record in book.records() {
-        show(rt, sample.name, *record)?;
+        show(rt, *record)?;
     }
     Ok(())
 }
 
-fn show(rt: &HostRuntime, name: &str, record: Record) -> anyhow::Result<()> {
+fn show(rt: &HostRuntime, record: Record) -> anyhow::Result<()> {
     let Record {
         position,
         setting,
@@ -36,6 +34,6 @@ fn show(rt: &HostRuntime, name: &str, record: Record) -> anyhow::Result<()> {
         (true, true) => "torn",
         (false, false) => "silent",
     };
-    println!(rt; "{name}: record {position} {setting} {reply}")?;
+    println!(rt; "site F: record {position} {setting} {reply}")?;
     Ok(())
 }

@@ -9,29 +9,24 @@ mod list;
 mod room;
 mod round;
 mod sample;
+mod site_f;
 mod worked;
 
 use answers::show_worked;
+use jobs::settle;
 use list::show_list;
 use room::show_room;
 use round::play_round;
-use sample::Sample;
-use worth::count_policies_of;
+use sample::SAMPLES;
 
 fn main(rt: HostRuntime) -> anyhow::Result<()> {
     show_worked(&rt)?;
-    for sample in Sample::ALL {
-        show(&rt, sample)?;
+    for sample in &SAMPLES {
+        let count = settle(rt.alloc(), sample.sheet)?.policies;
+        let name = sample.name;
+        println!(rt; "{name}: policies {count}")?;
     }
     show_room(&rt)?;
     play_round(&rt)?;
     show_list(&rt)
-}
-
-fn show(rt: &HostRuntime, sample: &Sample) -> anyhow::Result<()> {
-    let rules = sample.rules(rt.alloc())?;
-    let count = count_policies_of(sample.form, sample.prefix()?, &rules);
-    let name = sample.name;
-    println!(rt; "{name}: policies {count}")?;
-    Ok(())
 }

@@ -1,5 +1,5 @@
 // A round on site F, played from the book that a search finds.
-use crate::sample::Sample;
+use crate::site_f::SiteF;
 use anyhow::bail;
 use book::TableBook;
 use play::{Answer, Call, play_calls, search};
@@ -20,9 +20,7 @@ const CALLS: [Call; 7] = [
 // Searches a book for site F's clauses, makes the calls, and prints each with its answer.
 pub(crate) fn play_round(rt: &HostRuntime) -> anyhow::Result<()> {
     let heap = rt.alloc();
-    let sample = &Sample::SITE_F;
-    let prefix = sample.prefix()?;
-    let rules = sample.rules(heap)?;
+    let SiteF { prefix, rules } = SiteF::read(heap)?;
     let sheet = ClauseSheet::new(prefix, &rules);
     let mut words = vec![in heap; 0; TableBook::word_count(prefix)]?;
     let mut cells = vec![in heap; false; prefix.len()]?;
@@ -31,13 +29,13 @@ pub(crate) fn play_round(rt: &HostRuntime) -> anyhow::Result<()> {
     let mut answers = [Answer::Told; CALLS.len()];
     play_calls(&sheet, &book, &CALLS, &mut answers)?;
     for (call, answer) in CALLS.iter().zip(&answers) {
-        show(rt, sample.name, *call, *answer)?;
+        show(rt, *call, *answer)?;
     }
     Ok(())
 }
 
 // A call by its word, and what came of it.
-fn show(rt: &HostRuntime, name: &str, call: Call, answer: Answer) -> anyhow::Result<()> {
+fn show(rt: &HostRuntime, call: Call, answer: Answer) -> anyhow::Result<()> {
     let word = match call {
         Call::Tell(_) => "tell",
         Call::Reply => "reply",
@@ -46,13 +44,13 @@ fn show(rt: &HostRuntime, name: &str, call: Call, answer: Answer) -> anyhow::Res
     match (call, answer) {
         (_, Answer::Refused(fault)) => {
             let number = fault.number();
-            println!(rt; "{name}: {word} refused {number}")?;
+            println!(rt; "site F: {word} refused {number}")?;
         }
         (Call::Tell(on), Answer::Told) | (Call::Reply, Answer::Replied(on)) => {
             let value = if on { "on" } else { "off" };
-            println!(rt; "{name}: {word} {value}")?;
+            println!(rt; "site F: {word} {value}")?;
         }
-        (Call::Back(length), Answer::WentBack) => println!(rt; "{name}: {word} {length}")?,
+        (Call::Back(length), Answer::WentBack) => println!(rt; "site F: {word} {length}")?,
         _ => bail!("an answer to another call"),
     }
     Ok(())

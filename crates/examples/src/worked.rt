@@ -7,7 +7,7 @@ use jobs::Choice;
 use play::Verdict;
 
 // Site F: reports at 1 and 3, replies at 2 and 4.
-const SITE_F: &[u8] = b"p cnf 4 4
+pub(crate) const SITE_F: &[u8] = b"p cnf 4 4
 a 1 0
 e 2 0
 a 3 0
