@@ -1,7 +1,9 @@
-"""The sheets that tools/vectors writes: formulas from the literature and random ones.
+"""The sheets that tools/vectors writes: formulas from the literature, some of them changed,
+a few of our own, and random ones.
 
 Each function yields the sheets of one family, or of one formula with its changes; their
-comment lines name the source. Nothing here asks whether a sheet is true.
+comment lines name the source, or say that there is none. Nothing here asks whether a sheet
+is true.
 """
 
 import itertools
