@@ -46,6 +46,7 @@ impl<'a> TableBook<'a> {
     pub fn word_count(prefix: Prefix) -> usize
         ensures value { result ≡ word_count (kinds prefix) }
         ensures few { result ≤ Self.MOST_WORDS }
+        ensures most { Self.MOST_WORDS ≡ 1536 }
         ensures bits { OwnBits (kinds prefix) }
     {
         words_before(prefix, prefix.len() + 1)

@@ -110,6 +110,7 @@ impl Prefix {
     pub fn point_count(self) -> usize
         ensures value { result ≡ point_count (kinds self) }
         ensures few { result ≤ Self.MOST_POINTS }
+        ensures most { Self.MOST_POINTS ≡ 49152 }
         ensures numbering { PointNumbering (kinds self) }
     {
         let mut points = 0;
