@@ -5,4 +5,6 @@ pub mod Judging
 pub mod SiteF
 pub mod Books
 pub mod Claims
+pub mod Same
+pub mod Only
 pub mod Others

@@ -1,5 +1,5 @@
 -- The other sheets, the number 128, and bytes that no file begins with.
-use Rattle.std.proofs.Common.{◌≡◌, ℕ, [], ◌∷◌, map, refl, sym, ◌<◌, ◌≤◌, zero, suc, get_or, Ok, codes, arith}
+use Rattle.std.proofs.Common.{◌≡◌, ℕ, [], ◌∷◌, map, refl, sym, ◌<◌, ◌≤◌, zero, suc, get_or, Ok, Err, codes, ap, ⊎_elim, arith}
 use Rattle.std.proofs.lemmas.Nat.{ones_le_self}
 use Rattle.std.proofs.lemmas.Bool.{true≢false}
 use Rattle.prefix.specs.Policies.{Winnable}
@@ -19,7 +19,10 @@ use Rattle.book_file.specs.declared.fault.BookFault.TheVariants.{Number}
 use Rattle.book_file.specs.declared.field.Field.TheVariants.{Length}
 use Rattle.book_file.proofs.Beginning.{each_none}
 use Rattle.book_file.proofs.Grouping.{one_form, zero_last}
+use Rattle.book_file.specs.Faults.{book_fault_number, book_fault_place}
+use Rattle.book_file.proofs.Deciding.{decided}
 use Rattle.examples.specs.Examples.{FaultOf}
+use Rattle.examples.specs.Answers.{UnreadOnly}
 use Rattle.examples.proofs.Rules.{rule_of}
 use Rattle.examples.proofs.SiteF.{on, off}
 
@@ -90,3 +93,13 @@ not_begun = record {
 
 pub not_read : FaultOf (255 ∷ 0 ∷ []) 9 0
 not_read = (Number 0 Length, not_begun, refl, refl)
+
+pub other_number : (m : ℕ) → IsNumber m (128 ∷ 1 ∷ []) → m ≡ 128
+other_number m h = sym h.value
+
+pub unread_only : UnreadOnly (255 ∷ 0 ∷ []) 9 0
+unread_only (Ok r) before after h = (decided (255 ∷ 0 ∷ [])).not_both r.prefix h.0 (Number 0 Length) h.1 not_begun
+unread_only (Err f) before after h =
+    ⊎_elim (λ (own : HasFault (255 ∷ 0 ∷ []) f). let same : f ≡ Number 0 Length = (decided (255 ∷ 0 ∷ [])).one_fault f (Number 0 Length) own not_begun in
+    (ap book_fault_number same, ap book_fault_place same))
+    (λ short. absurd ((decided (255 ∷ 0 ∷ [])).not_both short.1.prefix short.1.rows (Number 0 Length) short.1.says not_begun)) h.1

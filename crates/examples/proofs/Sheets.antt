@@ -18,16 +18,20 @@ rules_made n qs [] h = tt
 rules_made n qs (ls ∷ rules) h =
     (made_of (map (placed qs) ls) (All-head (Ruled n qs) ls rules h).distinct, rules_made n qs rules (All-tail (Ruled n qs) ls rules h))
 
+-- The rules of a text that is read.
+pub text_rules : (t : List ℕ) (s : Sheet) → read_text t ≡ Ok s → MadeOf s.rules (map rule_of s.rules)
+text_rules t s read =
+    let says : Says t s = (read_exactly t s).0 read in
+    subst (λ (rs : List (List Literal)). MadeOf rs (map rule_of rs)) (sym says.literals) (rules_made (length s.kinds) says.variables says.rules says.lines.ruled)
+
 pub on_sheet : (t : List ℕ) (s : Sheet) (p : Prefix) (Claim : (List Bool → Bool) → Prefix → Type 0) → read_text t ≡ Ok s → kinds p ≡ s.kinds
     → Claim (rules_kept s.form p.length (map rule_of s.rules)) p → OnSheet t Claim
-on_sheet t s p Claim read same holds =
-    let says : Says t s = (read_exactly t s).0 read in
-    record {
-      sheet = s;
-      prefix = p;
-      rules = map rule_of s.rules;
-      says = says;
-      kinds = same;
-      made = subst (λ (rs : List (List Literal)). MadeOf rs (map rule_of rs)) (sym says.literals) (rules_made (length s.kinds) says.variables says.rules says.lines.ruled);
-      holds = holds;
-    }
+on_sheet t s p Claim read same holds = record {
+  sheet = s;
+  prefix = p;
+  rules = map rule_of s.rules;
+  says = (read_exactly t s).0 read;
+  kinds = same;
+  made = text_rules t s read;
+  holds = holds;
+}

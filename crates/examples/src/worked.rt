@@ -1,5 +1,6 @@
 // The worked examples that are proved.
 ghost use Rattle.std.specs.List.{AllByRecursion};
+ghost use Rattle.examples.specs.Answers.{Only};
 ghost use Rattle.examples.specs.Examples.{Holds};
 
 use crate::example::Example;
@@ -87,9 +88,11 @@ e 1 0
 0
 ";
 
-// Each holds, in the definitions that the contracts of the calls are made of.
+// Each holds, in the definitions that the contracts of the calls are made of, and these leave the
+// calls nothing else to answer, unless there is no memory.
 pub fn worked_examples() -> [Example; 10]
-    ensures { AllByRecursion Holds result }
+    ensures holds { AllByRecursion Holds result }
+    ensures only { AllByRecursion Only result }
 {
     [
         Example::Settled {
