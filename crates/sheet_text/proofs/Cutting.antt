@@ -1,9 +1,8 @@
-use Rattle.std.proofs.Common.{◌≡◌, ℕ, zero, suc, ◌+◌, ◌-◌, ◌<◌, ◌≤◌, cond, eqb, ◌⊎◌, List, [], ◌∷◌, ◌++◌, length, get_or, take, drop, sym, refl, ap, ◌∙◌, subst, inr, ⊎_elim, arith, get_or-drop}
+use Rattle.std.proofs.Common.{◌≡◌, ℕ, zero, suc, ◌+◌, ◌-◌, ◌<◌, ◌≤◌, cond, eqb, ◌⊎◌, List, [], ◌∷◌, ◌++◌, length, get_or, take, drop, sym, refl, ap, ◌∙◌, subst, inl, inr, ⊎_elim, arith, get_or-drop}
 use Rattle.std.proofs.lemmas.List.{at_drop_more, get_or_append_left, get_or_at, length-append, take_more, length-drop, drop_all, get_or-take, length-take-le}
 use Rattle.std.proofs.lemmas.Bool.{cases_eq, cases_lt}
 use Rattle.std.proofs.lemmas.Bool.Decides.{nat_tests}
-use Rattle.sheet_text.specs.Places.{Inner}
-use Rattle.sheet_text.specs.Bytes.{EachBefore, Space, Printable}
+use Rattle.sheet_text.specs.Bytes.{EachBefore, Space, Visible}
 use Rattle.sheet_text.specs.Words.{line_end, digits_on, natural_of, sort_word}
 use Rattle.sheet_text.specs.Cuts.{stop, next, bad, Open, gap, within, closed, more, cut, ended, tokens_from}
 
@@ -112,15 +111,13 @@ skip_spaces t p (suc n) h all =
     ∙ ap (tokens_from t gap) (let e : p + 1 + n ≡ p + suc n = omega arith in e)
 
 -- The first n bytes of the word from a place on.
-pub word_read : (t : List ℕ) (from n : ℕ) → from + n ≤ length t → ((k : ℕ) → k < n → Inner (get_or t (from + k) 0)) → ((k : ℕ) → k < n → Printable (get_or t (from + k) 0))
-    → tokens_from t gap from ≡ tokens_from t (open_at t from (from + n)) (from + n)
-word_read t from zero h inner print = grind (arith, nat_tests)
-word_read t from (suc n) h inner print =
+pub word_read : (t : List ℕ) (from n : ℕ) → from + n ≤ length t → ((k : ℕ) → k < n → Visible (get_or t (from + k) 0)) → tokens_from t gap from ≡ tokens_from t (open_at t from (from + n)) (from + n)
+word_read t from zero h fair = grind (arith, nat_tests)
+word_read t from (suc n) h fair =
     let b = get_or t (from + n) 0 in
-    let sound = inner n (omega arith) in
-    let fair = print n (omega arith) in
-    scan_more t from (from + n) b (omega arith) (omega arith) (sym (ended_in t (from + n) (omega arith))) sound.0 sound.1 fair.0 fair.1
-    (word_read t from n (omega arith) (λ k l. inner k (omega arith)) (λ k l. print k (omega arith)))
+    let here = fair n (omega arith) in
+    scan_more t from (from + n) b (omega arith) (omega arith) (sym (ended_in t (from + n) (omega arith))) (omega (arith, here.0)) (omega (arith, here.0)) (omega (arith, here.0)) here.1
+    (word_read t from n (omega arith) (λ k l. fair k (omega arith)))
     ∙ ap (λ (i : ℕ). tokens_from t (open_at t from i) i) (let e : from + n + 1 ≡ from + suc n = omega arith in e)
 
 -- The byte at a place, where a line's end or the text's is.
@@ -137,48 +134,32 @@ module _ (t : List ℕ) (a s : ℕ) (in_text : a + s ≤ length t) (spaces : Eac
   pub line_drawn : (a + s ≡ length t) ⊎ (get_or t (a + s) 0 ≡ 10) → tokens_from t gap a ≡ next (line_end (a + s)) (tokens_from t gap (a + s + 1))
   line_drawn e = skipped ∙ cut_line t gap (a + s) 10 in_text (end_at t (a + s) in_text e) refl
 
-  -- A word of n bytes stands there.
-  module _ (n : ℕ) (more : a + s < length t) (whole : n ≤ length (take (length t - (a + s)) (drop (a + s) t))) (inner : EachBefore n Inner (take (length t - (a + s)) (drop (a + s) t))) where
-    long : length (take (length t - (a + s)) (drop (a + s) t)) ≡ length t - (a + s)
-    long = length-take-le (length t - (a + s)) (drop (a + s) t) (simp length-drop (omega arith))
-
+  -- n bytes of a word stand there.
+  module _ (n : ℕ) (more : a + s < length t) (whole : n ≤ length (take (length t - (a + s)) (drop (a + s) t))) (fair : EachBefore n Visible (take (length t - (a + s)) (drop (a + s) t))) where
     inside_text : a + s + n ≤ length t
-    inside_text = omega (arith, long)
+    inside_text = omega (arith, length-take-le (length t - (a + s)) (drop (a + s) t) (simp length-drop (omega arith)))
 
-    exact : length (take (a + s + n - (a + s)) (drop (a + s) t)) ≡ n
-    exact = let inside = inside_text in length-take-le (a + s + n - (a + s)) (drop (a + s) t) (simp length-drop (omega arith)) ∙ (let e : a + s + n - (a + s) ≡ n = omega arith in e)
+    read : tokens_from t gap (a + s) ≡ tokens_from t (open_at t (a + s) (a + s + n)) (a + s + n)
+    read = word_read t (a + s) n inside_text (λ k h. subst Visible (at_slice t (a + s) (length t - (a + s)) k (omega (arith, inside_text))) (fair k h))
 
-    read : (m : ℕ) → m ≤ n → EachBefore m Printable (take (a + s + n - (a + s)) (drop (a + s) t)) → tokens_from t gap (a + s) ≡ tokens_from t (open_at t (a + s) (a + s + m)) (a + s + m)
-    read m part fair =
-        let inside = inside_text in
-        word_read t (a + s) m (omega arith)
-        (λ k h. subst Inner (at_slice t (a + s) (length t - (a + s)) k (omega arith)) (inner k (omega arith)))
-        (λ k h. subst Printable (at_slice t (a + s) (a + s + n - (a + s)) k (omega arith)) (fair k h))
+    -- The byte that follows is not allowed.
+    pub bad_drawn : a + s + n < length t → (n < length (take (length t - (a + s)) (drop (a + s) t)) → (get_or (take (length t - (a + s)) (drop (a + s) t)) n 0 ≤ 32) ⊎ (126 < get_or (take (length t - (a + s)) (drop (a + s) t)) n 0))
+        → (get_or t (a + s + n) 0 ≡ 32 → ⊥) → (get_or t (a + s + n) 0 ≡ 10 → ⊥) → tokens_from t gap a ≡ bad (a + s + n)
+    bad_drawn l stops no_space no_line =
+        let b = get_or t (a + s + n) 0 in
+        let out : (b ≤ 32) ⊎ (126 < b) = subst (λ (b : ℕ). (b ≤ 32) ⊎ (126 < b)) (at_slice t (a + s) (length t - (a + s)) n (omega arith)) (stops (omega (arith, length-take-le (length t - (a + s)) (drop (a + s) t) (simp length-drop (omega arith))))) in
+        let beyond : (b < 32) ⊎ (126 < b) = ⊎_elim (λ (low : b ≤ 32). inl (omega (arith, no_space))) (λ (high : 126 < b). inr high) out in
+        skipped ∙ read ∙ cut-bad t _ (a + s + n) b (omega arith) (sym (ended_in t (a + s + n) l)) no_space no_line beyond
 
-    pub bad_drawn : (m : ℕ) → m < length (take (a + s + n - (a + s)) (drop (a + s) t)) → EachBefore m Printable (take (a + s + n - (a + s)) (drop (a + s) t))
-        → (get_or (take (a + s + n - (a + s)) (drop (a + s) t)) m 0 < 32) ⊎ (126 < get_or (take (a + s + n - (a + s)) (drop (a + s) t)) m 0) → tokens_from t gap a ≡ bad (a + s + m)
-    bad_drawn m within_word fair out =
-        let inside = inside_text in
-        let l : m < n = omega (arith, exact) in
-        let b = get_or t (a + s + m) 0 in
-        let inner_b : Inner b = subst Inner (at_slice t (a + s) (length t - (a + s)) m (omega arith)) (inner m l) in
-        let out_b : (b < 32) ⊎ (126 < b) = subst (λ (b : ℕ). (b < 32) ⊎ (126 < b)) (at_slice t (a + s) (a + s + n - (a + s)) m (omega arith)) out in
-        skipped ∙ read m (omega arith) fair ∙ cut-bad t _ (a + s + m) b (omega arith) (sym (ended_in t (a + s + m) (omega arith))) inner_b.0 inner_b.1 out_b
-
+    -- The word ends there.
     pub word_drawn : (s < length (take (length t - a) (drop a t)) → get_or (take (length t - a) (drop a t)) s 0 ≡ 32 → ⊥) → (get_or t (a + s) 0 ≡ 10 → ⊥)
-        → (n < length (take (length t - (a + s)) (drop (a + s) t)) → (get_or (take (length t - (a + s)) (drop (a + s) t)) n 0 ≡ 32) ⊎ (get_or (take (length t - (a + s)) (drop (a + s) t)) n 0 ≡ 10))
-        → EachBefore (length (take (a + s + n - (a + s)) (drop (a + s) t))) Printable (take (a + s + n - (a + s)) (drop (a + s) t))
-        → tokens_from t gap a ≡ next (sort_word (take (a + s + n - (a + s)) (drop (a + s) t)) (a + s)) (tokens_from t gap (a + s + n))
-    word_drawn no_space no_line stops fair =
-        let inside = inside_text in
-        let size = long in
+        → (length t ≤ a + s + n) ⊎ ((get_or t (a + s + n) 0 ≡ 32) ⊎ (get_or t (a + s + n) 0 ≡ 10)) → tokens_from t gap a ≡ next (sort_word (take (a + s + n - (a + s)) (drop (a + s) t)) (a + s)) (tokens_from t gap (a + s + n))
+    word_drawn no_space no_line ends =
         let b = get_or (ended t) (a + s + n) 0 in
         let end : (b ≡ 32) ⊎ (b ≡ 10) = ⊎_elim
-        (λ (l : a + s + n < length t).
-        let is : b ≡ get_or (take (length t - (a + s)) (drop (a + s) t)) n 0 = ended_in t (a + s + n) l ∙ sym (at_slice t (a + s) (length t - (a + s)) n (omega arith)) in
-        subst (λ (b : ℕ). (b ≡ 32) ⊎ (b ≡ 10)) (sym is) (stops (omega arith)))
-        (λ (l : length t ≤ a + s + n). inr (ended_at t (a + s + n) inside l)) (cases_lt (a + s + n) (length t)) in
+        (λ (l : a + s + n < length t). ⊎_elim (λ (z : length t ≤ a + s + n). absurd (omega arith)) (λ (e : (get_or t (a + s + n) 0 ≡ 32) ⊎ (get_or t (a + s + n) 0 ≡ 10)). subst (λ (b : ℕ). (b ≡ 32) ⊎ (b ≡ 10)) (sym (ended_in t (a + s + n) l)) e) ends)
+        (λ (l : length t ≤ a + s + n). inr (ended_at t (a + s + n) inside_text l)) (cases_lt (a + s + n) (length t)) in
         let first = ended_in t (a + s) more in
         let start : get_or (ended t) (a + s) 0 ≡ 32 → ⊥ = λ e. no_space (omega (arith, length-take-le (length t - a) (drop a t) (simp length-drop (omega arith)))) (at_slice t a (length t - a) s (omega arith) ∙ sym first ∙ e) in
         let some : a + s < a + s + n = scan_some t (a + s) (a + s + n) b (omega arith) refl end start (λ e. no_line (sym first ∙ e)) in
-        skipped ∙ scan_end t (a + s) (a + s + n) b (omega arith) inside refl end some (read n (omega arith) (λ k h. fair k (omega (arith, exact))))
+        skipped ∙ scan_end t (a + s) (a + s + n) b (omega arith) inside_text refl end some read

@@ -1,5 +1,5 @@
 -- What the lexer finds in a stretch of bytes.
-use Rattle.std.specs.Prelude.{◌≡◌, ℕ, ◌<◌, ◌≤◌, ◌⊎◌, List, length, slice_index}
+use Rattle.std.specs.Prelude.{◌≡◌, ℕ, ◌<◌, ◌≤◌, List, slice_index}
 
 abbrev pub Space : ℕ → Type 0
 Space b = b ≡ 32
@@ -8,10 +8,10 @@ Space b = b ≡ 32
 abbrev pub Printable : ℕ → Type 0
 Printable b = (32 ≤ b) × (b ≤ 126)
 
+-- One that a word may have: it is no space either.
+abbrev pub Visible : ℕ → Type 0
+Visible b = (32 < b) × (b ≤ 126)
+
 -- Each of the first n bytes is of a kind.
 abbrev pub EachBefore : ℕ → (ℕ → Type 0) → List ℕ → Type 0
 EachBefore n P t = (k : ℕ) → k < n → P (slice_index t k)
-
--- The first byte that is not printable stands at the place i.
-abbrev pub FirstUnprintable : List ℕ → ℕ → Type 0
-FirstUnprintable t i = (i < length t) × EachBefore i Printable t × ((slice_index t i < 32) ⊎ (126 < slice_index t i))

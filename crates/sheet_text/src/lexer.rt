@@ -1,7 +1,6 @@
 // Cuts a text into words, one at a time.
-ghost use Rattle.std.specs.Prelude.{◌≡◌, ℕ, ◌+◌, ◌<◌, ◌≤◌, ◌≢◌, ◌⊎◌, length, slice_index, MatchOption};
-ghost use Rattle.sheet_text.specs.Bytes.{EachBefore, Space, Printable, FirstUnprintable};
-ghost use Rattle.sheet_text.specs.Places.{Inner};
+ghost use Rattle.std.specs.Prelude.{◌≡◌, ◌+◌, ◌<◌, ◌≤◌, ◌≢◌, ◌⊎◌, length, slice_index};
+ghost use Rattle.sheet_text.specs.Bytes.{EachBefore, Space, Visible};
 
 use crate::word::Word;
 use faults::TextFault;
@@ -50,11 +49,12 @@ impl<'a> Iterator for Lexer<'a> {
             return Some(Ok(Word::LineEnd { place: from }));
         }
         let end = from + word_length(&text[from..]);
+        if end < text.len() && text[end] != b' ' && text[end] != b'\n' {
+            self.at = end + 1;
+            return Some(Err(TextFault::Byte { place: end }));
+        }
         self.at = end;
         let stretch = &text[from..end];
-        if let Some(i) = first_unprintable(stretch) {
-            return Some(Err(TextFault::Byte { place: from + i }));
-        }
         Some(Ok(Word::of(stretch, from)))
     }
 }
@@ -70,21 +70,15 @@ fn spaces(text: &[u8]) -> usize
         .unwrap_or(text.len())
 }
 
-// How far the word goes with which a text begins. (One function for both would take
-// its test as a parameter, and say no more of it than these two chains.)
+// How far a word goes on, up to a byte that ends it or that none may have: a word is
+// gone over once, and no further than that. (One function for both would take its test
+// as a parameter, and say no more of it than these two chains.)
 fn word_length(text: &[u8]) -> usize
     ensures within { result ≤ length text.now }
-    ensures before { EachBefore result Inner text.now }
-    ensures stops { result < length text.now → (slice_index text.now result ≡ 32) ⊎ (slice_index text.now result ≡ 10) }
+    ensures before { EachBefore result Visible text.now }
+    ensures stops { result < length text.now → (slice_index text.now result ≤ 32) ⊎ (126 < slice_index text.now result) }
 {
     text.iter()
-        .position(|byte| *byte == b' ' || *byte == b'\n')
+        .position(|byte| *byte <= b' ' || *byte > b'~')
         .unwrap_or(text.len())
-}
-
-// Where a word has its first byte that is not allowed.
-fn first_unprintable(word: &[u8]) -> Option<usize>
-    ensures { MatchOption result (EachBefore (length word.now) Printable word.now) (FirstUnprintable word.now) }
-{
-    word.iter().position(|byte| *byte < b' ' || *byte > b'~')
 }
