@@ -14,14 +14,14 @@ use Rattle.sheet_text.proofs.Refusals.{refused_exactly}
 use Rattle.sheet_text.proofs.TextReads.{read-says, read_exactly}
 
 -- Where the words were read, the text was.
-pub passed_ok : (t : List ℕ) (d : Draft) → Passed (read_through t) (Ok d) → (z : Progress) × (read_through t ≡ Ok z) × Stands z d
+pub passed_ok : (t : List ℕ) (d : Draft) → Passed (read_through t) (Ok tt) d → (z : Progress) × (read_through t ≡ Ok z) × Stands z d
 passed_ok t d h = by (read_through t) refl h
   where
-    by : (o : Result Progress SheetFault) → read_through t ≡ o → Passed o (Ok d) → (z : Progress) × (read_through t ≡ Ok z) × Stands z d
+    by : (o : Result Progress SheetFault) → read_through t ≡ o → Passed o (Ok tt) d → (z : Progress) × (read_through t ≡ Ok z) × Stands z d
     by (Ok z) is h = (z, is, h)
     by (Err f) is h = absurd h
 
-pub limits : (t : List ℕ) (d : Draft) → Passed (read_through t) (Ok d) → Limits d.reader.state.length d.reader.state.reports
+pub limits : (t : List ℕ) (d : Draft) → Passed (read_through t) (Ok tt) d → Limits d.reader.state.length d.reader.state.reports
 limits t d h =
     let z = passed_ok t d h in
     subst (λ (m : State). Limits m.length m.reports) (sym z.2.reader) (read-says t z.0 z.1).1

@@ -99,10 +99,10 @@ module _ (t : List ℕ) (l k : Lexer) (d : Draft) (g : Going t l d) where
     pub going_unfinished : (f : SheetFault) → Err f ≡ finished (length t) d.reader.state.section d.reader.state → Err f ≡ read_through t
     going_unfinished f e = sym (finished_err (length t) g.so_far f (e ∙ ap (λ (m : State). finished (length t) m.section m) g.stands.reader)) ∙ through
 
-    pub going_over : (x : Unit {0}) → Ok x ≡ finished (length t) d.reader.state.section d.reader.state → Passed (read_through t) (Ok d)
+    pub going_over : (x : Unit {0}) → Ok x ≡ finished (length t) d.reader.state.section d.reader.state → Passed (read_through t) (Ok tt) d
     going_over x e =
-        subst (λ (r : Result Progress SheetFault). Passed r (Ok d)) (sym (finished_ok (length t) g.so_far x (e ∙ ap (λ (m : State). finished (length t) m.section m) g.stands.reader)) ∙ through) g.stands
+        subst (λ (r : Result Progress SheetFault). Passed r (Ok tt) d) (sym (finished_ok (length t) g.so_far x (e ∙ ap (λ (m : State). finished (length t) m.section m) g.stands.reader)) ∙ through) g.stands
 
 -- A fault that the text has is what was to be found.
-pub passed_fault : (t : List ℕ) (f : SheetFault) (r : Result Draft SheetFault) → r ≡ Err f → Err f ≡ read_through t → Passed (read_through t) r
-passed_fault t f r is e = subst (λ (r : Result Draft SheetFault). Passed (read_through t) r) (sym is) (subst (λ (o : Result Progress SheetFault). Passed o (Err f)) e refl)
+pub passed_fault : (t : List ℕ) (f : SheetFault) (r : Result (Unit {0}) SheetFault) (d : Draft) → r ≡ Err f → Err f ≡ read_through t → Passed (read_through t) r d
+passed_fault t f r d is e = subst (λ (r : Result (Unit {0}) SheetFault). Passed (read_through t) r d) (sym is) (subst (λ (o : Result Progress SheetFault). Passed o (Err f) d) e refl)

@@ -18,9 +18,9 @@ abbrev pub Advanced : Result Progress SheetFault → Result (Unit {0}) SheetFaul
 Advanced (Ok s) r d = (r ≡ Ok tt) × Stands s d
 Advanced (Err f) r d = r ≡ Err f
 
--- What reading all words gives, by what the text gives.
-abbrev pub Passed : Result Progress SheetFault → Result Draft SheetFault → Type 0
-Passed (Ok s) (Ok d) = Stands s d
-Passed (Ok s) (Err f) = ⊥
-Passed (Err g) (Ok d) = ⊥
-Passed (Err g) (Err f) = f ≡ g
+-- How reading all words leaves a draft, by what the text gives.
+abbrev pub Passed : Result Progress SheetFault → Result (Unit {0}) SheetFault → Draft → Type 0
+Passed (Ok s) (Ok x) d = Stands s d
+Passed (Ok s) (Err f) d = ⊥
+Passed (Err g) (Ok x) d = ⊥
+Passed (Err g) (Err f) d = f ≡ g

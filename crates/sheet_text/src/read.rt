@@ -1,10 +1,10 @@
 // Reads a sheet from its text.
-ghost use Rattle.sheet_text.specs.Reading.{read_text, read_through};
+ghost use Rattle.sheet_text.specs.Reading.{begin, read_text, read_through};
 ghost use Rattle.sheet_text.specs.Grammar.{EachNamed};
 ghost use Rattle.sheet_text.specs.Laws.{ReadAsSaid, RefusedAsFound};
 ghost use Rattle.sheet_text.specs.Refusing.{Decided};
 ghost use Rattle.sheet_text.specs.Tables.{Outcome, Meant};
-ghost use Rattle.sheet_text.specs.Drafts.{Passed};
+ghost use Rattle.sheet_text.specs.Drafts.{Passed, Stands};
 
 use crate::draft::Draft;
 use crate::lexer::Lexer;
@@ -13,16 +13,17 @@ use faults::SheetFault;
 use prefix::Prefix;
 use sheet::Rule;
 
-// Reads all words, up to the end of the text.
-fn read_words(text: &[u8]) -> Result<Draft, SheetFault>
-    ensures { Passed (read_through text.now) result }
+// Reads all words, up to the end of the text, into a draft that has seen none: lent, and
+// not handed back, since it has places for 256 rules.
+fn read_words(text: &[u8], draft: &mut Draft) -> Result<(), SheetFault>
+    requires { Stands begin draft.old }
+    ensures { Passed (read_through text.now) result draft.new }
 {
-    let mut draft = Draft::new();
     for word in Lexer::new(text) {
         draft.take(word?)?;
     }
     draft.reader.state.finish(text.len())?;
-    Ok(draft)
+    Ok(())
 }
 
 // Reads all words before it touches the table.
@@ -30,7 +31,8 @@ fn read_words(text: &[u8]) -> Result<Draft, SheetFault>
 fn read_into(text: &[u8], table: &mut [Rule]) -> Result<Reading, SheetFault>
     ensures { Outcome (read_text text.now) result table.old table.new }
 {
-    let draft = read_words(text)?;
+    let mut draft = Draft::new();
+    read_words(text, &mut draft)?;
     let rules = draft.rules.as_slice();
     if rules.len() > table.len() {
         return Err(SheetFault::TableTooShort);

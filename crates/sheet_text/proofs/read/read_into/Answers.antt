@@ -5,5 +5,5 @@ use Rattle.sheet_text.proofs.read.read_into.Goals as goal
 
 pub unwrap-requires : goal.unwrap-requires
 unwrap-requires c =
-    let within : Limits c.in_ok-draft.draft.reader.state.length c.in_ok-draft.draft.reader.state.reports = limits c.args.text.now c.in_ok-draft.draft c.in_ok-draft.ensures in
+    let within : Limits c.read_words.new.draft.reader.state.length c.read_words.new.draft.reader.state.reports = limits c.args.text.now c.read_words.new.draft c.in_ok-read_words.ensures in
     search rules

@@ -9,12 +9,12 @@ pub returns-in_err-word : goal.returns-in_err-word
 returns-in_err-word c =
     let p = err_from_is_err_and c.from_residual.result c.from_residual.ensures.1 in
     let drew : Drew (stream c.loop-word.word-iterator) (Err c.in_err-word.field-0.0) (stream c.next.new.self) = search rules in
-    passed_fault c.args.text.now _ _ (p.1 ∙ ap Err p.2) (going_bad c.args.text.now c.loop-word.word-iterator c.next.new.self c.loop-word.draft c.loop-word.invariant.2 _ drew)
+    passed_fault c.args.text.now _ _ _ (p.1 ∙ ap Err p.2) (going_bad c.args.text.now c.loop-word.word-iterator c.next.new.self c.loop-word.draft c.loop-word.invariant.2 _ drew)
 
 pub returns-in_err-take : goal.returns-in_err-take
 returns-in_err-take c =
     let p = err_from_is_err_and c.from_residual-in_err-take.result c.from_residual-in_err-take.ensures.1 in
-    passed_fault c.args.text.now _ _ (p.1 ∙ ap Err p.2)
+    passed_fault c.args.text.now _ _ _ (p.1 ∙ ap Err p.2)
     (going_fault c.args.text.now c.loop-word.word-iterator c.next.new.self c.loop-word.draft c.loop-word.invariant.2 c.in_ok-word.field-0 c.take.new.self (search rules) _ (λ s h. c.in_err-take.ensures s h))
 
 pub take-requires : goal.take-requires
@@ -28,7 +28,7 @@ pub returns-in_err-finish : goal.returns-in_err-finish
 returns-in_err-finish c =
     let p = err_from_is_err_and c.from_residual-in_err-finish.result c.from_residual-in_err-finish.ensures.1 in
     let over : stream c.loop-word.word-iterator ≡ stop = search rules in
-    passed_fault c.args.text.now _ _ (p.1 ∙ ap Err p.2)
+    passed_fault c.args.text.now _ _ _ (p.1 ∙ ap Err p.2)
     (going_unfinished c.args.text.now c.loop-word.word-iterator c.loop-word.word-iterator c.loop-word.draft c.loop-word.invariant.2 over _ c.in_err-finish.ensures)
 
 pub returns : goal.returns
