@@ -1,10 +1,11 @@
 -- The position after some bytes, by what stands at their end.
-use Rattle.std.proofs.Common.{◌≡◌, ℕ, ◌+◌, Bool, true, false, not, cond, eqb, List, [], ◌∷◌, ◌++◌, length, reverse, sym, refl, ap, ◌∙◌, subst, inl, inr, arith}
+use Rattle.std.proofs.Common.{◌≡◌, ℕ, ◌+◌, ◌-◌, Bool, true, false, not, cond, eqb, List, [], ◌∷◌, ◌++◌, length, take, reverse, sym, refl, ap, ◌∙◌, subst, inl, inr, arith}
 use mathlib.Core.List.{reverse-cons}
 use Rattle.std.specs.List.{prefix_len, take_while}
 use Rattle.std.proofs.lemmas.List.Elements.{All-nil, All-push}
 use Rattle.std.proofs.lemmas.Bool.{eqb-true, eqb-false}
-use Rattle.std.proofs.lemmas.List.{append_assoc, append-nil, length_push, reverse-reverse}
+use Rattle.std.proofs.Math.Seq.{take-append_seam}
+use Rattle.std.proofs.lemmas.List.{append_assoc, append-nil, length-append, length_push, reverse-reverse}
 use Rattle.std.proofs.lemmas.List.Sums.{sum_by-append}
 use Rattle.std.proofs.lemmas.List.Folds.{length-prefix_len}
 use Rattle.jobs.specs.Positions.{line_ends, EndsAt}
@@ -57,8 +58,18 @@ ends_reversed (b ∷ rs) =
     subst (λ (bs : List ℕ). EndsAt bs (record { line = line_ends bs + 1; column = since (b ∷ rs) + 1 })) (sym (reverse-cons b rs))
     (ends_push (reverse rs) b (since rs) (eqb b 10) refl (ends_reversed rs))
 
-pub ends_at : (bs : List ℕ) (lines bytes : ℕ) → lines ≡ line_ends bs → bytes ≡ length (take_while (λ b. not (eqb b 10)) (reverse bs))
-    → EndsAt bs (record { line = lines + 1; column = bytes + 1 })
-ends_at bs lines bytes l n =
-    let c : bytes ≡ since (reverse bs) = n ∙ length-prefix_len (λ b. not (eqb b 10)) (reverse bs) in
-    rw (l, c) (subst (λ (x : List ℕ). EndsAt x (record { line = line_ends x + 1; column = since (reverse bs) + 1 })) (reverse-reverse bs) (ends_reversed (reverse bs)))
+-- Where that many bytes stand since the last line end, the others are whole lines.
+module _ (bs : List ℕ) (bytes : ℕ) (n : bytes ≡ length (take_while (λ b. not (eqb b 10)) (reverse bs))) where
+  ends_after : EndsAt bs (record { line = line_ends bs + 1; column = bytes + 1 })
+  ends_after =
+      let c : bytes ≡ since (reverse bs) = n ∙ length-prefix_len (λ b. not (eqb b 10)) (reverse bs) in
+      rw c (subst (λ (x : List ℕ). EndsAt x (record { line = line_ends x + 1; column = since (reverse bs) + 1 })) (reverse-reverse bs) (ends_reversed (reverse bs)))
+
+  parted : length bs ≡ length ends_after.lines + bytes
+  parted = let h = ends_after in omega (arith, ap length h.parts, length-append h.lines h.part, h.column)
+
+  pub ends_at : (lines : ℕ) → lines ≡ line_ends (take (length bs - bytes) bs) → EndsAt bs (record { line = lines + 1; column = bytes + 1 })
+  ends_at lines l =
+      let h = ends_after in
+      let front : take (length bs - bytes) bs ≡ h.lines = ap (λ (k : ℕ). take k bs) (let e : length bs - bytes ≡ length h.lines = omega (arith, parted) in e) ∙ ap (take (length h.lines)) h.parts ∙ take-append_seam h.lines h.part in
+      record { lines = h.lines; part = h.part; parts = h.parts; whole = h.whole; inside = h.inside; line = omega (arith, l, ap line_ends front); column = h.column }

@@ -23,12 +23,14 @@ impl TextPosition {
     pub fn after(bytes: &[u8]) -> TextPosition
         ensures { EndsAt bytes.now result }
     {
-        let line_ends = bytes.iter().filter(|byte| **byte == b'\n').count();
         let since = bytes
             .iter()
             .rev()
             .take_while(|byte| **byte != b'\n')
             .count();
+        // these have no line end, and are not gone over again
+        let lines = &bytes[..bytes.len() - since];
+        let line_ends = lines.iter().filter(|byte| **byte == b'\n').count();
         TextPosition {
             line: line_ends + 1,
             column: since + 1,
