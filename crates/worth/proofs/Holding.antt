@@ -1,7 +1,6 @@
 -- The invariant of the walk's loop, and that each way through the loop keeps it.
-use Rattle.std.proofs.Common.{◌≡◌, ℕ, suc, ◌+◌, ◌<◌, ◌≤◌, Bool, true, false, not, ◌≢◌, List, length, get_or, set, Some, None, Option, sym, refl, ap, ◌∙◌, subst, arith}
-use Rattle.std.specs.Option.{is_some, unwrap_or}
-use Rattle.std.proofs.lemmas.Bool.{true≢false}
+use Rattle.std.proofs.Common.{◌≡◌, ℕ, suc, ◌+◌, ◌<◌, ◌≤◌, Bool, true, false, not, ◌≢◌, List, length, get_or, set, Some, None, Option, sym, ap, ◌∙◌, subst, arith}
+use Rattle.std.specs.Option.{unwrap_or}
 use Rattle.prefix.specs.Bits.{bit, bits}
 use Rattle.prefix.specs.Kinds.{is_report}
 use Rattle.prefix.specs.declared.kind.Kind.{Kind}
@@ -14,10 +13,6 @@ pub record Holds {W : Type 0} (j : Joins W) (kept : List Bool → Bool) (ks : Li
   pub within : d ≤ length ks
   pub since : start ≤ d
   pub comes : climb j kept ks start d line cells (unwrap_or known (deep j kept ks d (bits d line))) ≡ w
-
-pub none_from : {W : Type 0} (o : Option W) → is_some o ≡ false → o ≡ None
-none_from None e = refl
-none_from (Some x) e = absurd (true≢false e)
 
 module _ {W : Type 0} (j : Joins W) (kept : List Bool → Bool) (ks : List Kind) (start : ℕ) (w : W) where
   pub holds-start : (line : ℕ) (xs : List W) → start ≤ length ks → deep j kept ks start (bits start line) ≡ w → Holds j kept ks start w start line xs None

@@ -33,13 +33,16 @@ pub(crate) fn walk_from<S: Scale, F: Sheet>(
     let mut known: Option<S::Worth> = None;
     loop {
         match known {
-            None => {
-                known = leaf_worth::<S, F>(sheet, n, part);
-                if known.is_none() {
+            None => match leaf_worth::<S, F>(sheet, n, part) {
+                Some(leaf) => known = Some(leaf),
+                None => {
                     part.length += 1;
                     part.line = part.line.with(part.length, !prefix.is_report(part.length));
+                    // at once and with `known` as it is, so that the way down is compiled
+                    // as a loop of its own
+                    continue;
                 }
-            }
+            },
             Some(worth) => {
                 if part.length == from.length {
                     return worth;

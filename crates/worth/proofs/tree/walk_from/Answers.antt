@@ -2,7 +2,6 @@ use Rattle.std.proofs.Common.{◌≡◌, ℕ, suc, ◌+◌, ◌-◌, ◌<◌, �
 use mathlib.Core.Bool.{beq}
 use Rattle.std.specs.Option.{is_some}
 use Rattle.std.proofs.lemmas.List.{get_or_read}
-use Rattle.std.proofs.lemmas.Option.{MatchOption-at_none}
 use Rattle.prefix.specs.Bits.{bits, mask_value}
 use Rattle.prefix.specs.Kinds.{is_report}
 use Rattle.prefix.specs.Prefixes.{kinds}
@@ -13,9 +12,10 @@ use Rattle.prefix.proofs.Positions.{length-kinds}
 use Rattle.worth.specs.Scales.{joined}
 use Rattle.worth.specs.Worth.{worth}
 use Rattle.worth.proofs.Turns.{second, Down, Over, fewer_known, fewer_down, fewer_up, fewer_over}
-use Rattle.worth.proofs.Holding.{none_from, holds-start, holds_down, holds_up, holds-cut, holds_over, holds_end}
+use Rattle.worth.proofs.Holding.{holds-start, holds_down, holds_up, holds-cut, holds_over, holds_end}
 use Rattle.worth.proofs.tree.walk_from.Given as given
 use Rattle.worth.proofs.tree.walk_from.Goals as goal
+use Rattle.worth.proofs.tree.walk_from.Goals.{After-with-part}
 
 -- Which branch a line is in, from what the code asks at position d.
 branch : (ks : List Kind) (line d k : ℕ) (value report : Bool) (b : Bool) → d ≡ suc k → value ≡ mask_value line d → report ≡ is_report ks d → beq value report ≡ b → second ks line k ≡ b
@@ -28,11 +28,11 @@ loop-known-init g c =
     let within : c.args.from.length ≤ p.length = subst (λ (q : Prefix). c.args.from.length ≤ q.length) (sym c.prefix-prefix.ensures) c.requires.within in
     holds-start _ _ _ _ _ _ _ (omega (arith, length-kinds p.length p.reports)) refl
 
-pub loop-known-smaller-else-is_none : goal.loop-known-smaller-else-is_none
-loop-known-smaller-else-is_none g c = fewer_known _ _ _ _ _ (ap is_some c.in-None.is) (c.is_none.ensures ∙ ap not c.if-is_none.false)
+pub loop-known-smaller-in-Some-leaf_worth : goal.loop-known-smaller-in-Some-leaf_worth
+loop-known-smaller-in-Some-leaf_worth g c = fewer_known _ _ _ _ _ (ap is_some c.in-None.is) refl
 
 -- Going down: there is a next position, and the line has the first value there.
-down : (g : given.Over) (c : goal.After-with-part g) → Down (kinds c.prefix-prefix.result) c.loop-known.part.length c.loop-known.part.line.mask c.with-part.result.mask
+down : (g : given.Over) (c : After-with-part g) → Down (kinds c.prefix-prefix.result) c.loop-known.part.length c.loop-known.part.line.mask c.with-part.result.mask
 down g c =
     let p = c.prefix-prefix.result in
     let d = c.loop-known.part.length in
@@ -40,21 +40,20 @@ down g c =
     let to = c.with-part.result.mask in
     let next = add-one d in
     let long = length-kinds p.length p.reports in
-    let more : d < c.len-n.result = MatchOption-at_none _ _ (none_from _ (c.is_none.ensures ∙ ap not c.if-is_none.true)) c.leaf_worth-known.ensures in
+    let more : d < c.len-n.result = c.in-None-leaf_worth.ensures in
     record {
       inside = omega (arith, c.len-n.ensures.value);
       first = changed_here line (d + 1) d to _ c.with-part.ensures next (omega (arith, c.len-n.ensures.few)) ∙ ap not (c.is_report.ensures ∙ ap (is_report (kinds p)) next);
       before = changed_before line (d + 1) d to _ c.with-part.ensures next;
     }
 
-pub loop-known-smaller-then-is_none : goal.loop-known-smaller-then-is_none
-loop-known-smaller-then-is_none g c =
-    let s = down g c in fewer_down _ _ _ _ _ _ (ap is_some c.in-None.is) (c.is_none.ensures ∙ ap not c.if-is_none.true) s.inside s.first s.before
+pub loop-known-smaller-in-None-leaf_worth : goal.loop-known-smaller-in-None-leaf_worth
+loop-known-smaller-in-None-leaf_worth g c =
+    let s = down g c in fewer_down _ _ _ _ _ _ (ap is_some c.in-None.is) (ap is_some c.in-None.is) s.inside s.first s.before
 
-pub loop-known-preserved-then-is_none : goal.loop-known-preserved-then-is_none
-loop-known-preserved-then-is_none g c =
-    let s = down g c in
-    holds_down _ _ _ _ _ _ _ _ _ c.loop-known.invariant _ c.in-None.is s.inside s.first s.before _ (none_from _ (c.is_none.ensures ∙ ap not c.if-is_none.true))
+pub loop-known-preserved-in-None-leaf_worth : goal.loop-known-preserved-in-None-leaf_worth
+loop-known-preserved-in-None-leaf_worth g c =
+    let s = down g c in holds_down _ _ _ _ _ _ _ _ _ c.loop-known.invariant _ c.in-None.is s.inside s.first s.before _ c.in-None.is
 
 pub returns-then-part-from : goal.returns-then-part-from
 returns-then-part-from g c =
