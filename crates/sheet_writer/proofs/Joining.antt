@@ -1,26 +1,21 @@
 -- The lines of a text that was joined from lines of words are those lines.
-use Rattle.std.proofs.Common.{All, ◌≡◌, ℕ, ◌<◌, ◌≤◌, false, eqb, List, [], ◌∷◌, ◌++◌, map, length, refl, ap, ◌∙◌, inl, inr, arith}
+use Rattle.std.proofs.Common.{All, ◌≡◌, ℕ, ◌<◌, false, eqb, List, [], ◌∷◌, ◌++◌, map, length, refl, ap, ◌∙◌, inl, inr, arith}
 use Rattle.std.specs.List.{flat_map}
 use Rattle.std.proofs.lemmas.List.Elements.{All-nil, All-cons, All-head, All-tail, All-append, All-push, All-weaker}
 use Rattle.std.proofs.lemmas.List.{append_assoc}
 use Rattle.std.proofs.lemmas.Bool.{ne_eqb}
+use Rattle.sheet_text.specs.Bytes.{Printable, Visible}
 use Rattle.sheet_text.specs.Grammar.{Allowed, pieces, non_empty, words_of, lines_of}
 use Rattle.sheet_writer.specs.Writing.{spaced, line_text}
 use Rattle.sheet_text.proofs.Lining.{pieces-cut, pieces_one}
 
 -- A word has a byte, and its bytes are printable and no spaces.
-abbrev pub Visible : ℕ → Type 0
-Visible b = (33 ≤ b) × (b ≤ 126)
-
 abbrev pub IsWord : List ℕ → Type 0
 IsWord w = (0 < length w) × All Visible w
 
 -- A line has a word.
 abbrev pub IsLine : List (List ℕ) → Type 0
 IsLine l = (0 < length l) × All IsWord l
-
-abbrev Printable : ℕ → Type 0
-Printable b = (32 ≤ b) × (b ≤ 126)
 
 abbrev Without : ℕ → List ℕ → Type 0
 Without s w = All (λ b. eqb b s ≡ false) w

@@ -9,7 +9,8 @@ use Rattle.sheet.specs.declared.form.Form.{Form}
 use Rattle.sheet.specs.declared.form.Form.TheVariants.{Cnf, Dnf}
 use Rattle.sheet_text.specs.Grammar.{Quantifier, Signed, Ranges, form_word, header_line, kind_word, quantifier_line, signed_word, rule_line}
 use Rattle.sheet_text.proofs.RuleReads.{Known}
-use Rattle.sheet_writer.proofs.Joining.{Visible, IsWord, IsLine}
+use Rattle.sheet_text.specs.Bytes.{Visible}
+use Rattle.sheet_writer.proofs.Joining.{IsWord, IsLine}
 
 digits_more : (n : ℕ) (ds : List ℕ) → 10 ≤ n → IsWord ds → IsWord (ds ++ (48 + n % 10) ∷ [])
 digits_more n ds h w = grind (arith, common_steps, All-push)
